@@ -1,30 +1,50 @@
 -- A bank after its sessions.
-use Rattle.std.proofs.Common.{ℕ, ◌+◌, Bool, refl, ◌∙◌, arith}
+use Rattle.std.proofs.Common.{ℕ, ◌+◌, Bool, false, List, refl, ◌∙◌, arith}
 use Rattle.sb_checkpoint.specs.Stores.{StoreModel}
+use Rattle.sb_calls.specs.declared.ask.Key.{Key}
+use Rattle.sb_calls.specs.declared.call.Call.{Call}
 use Rattle.sb_sequencer.specs.Numbering.{IsLog}
 use Rattle.bank_server.specs.Primary.{HasWholeLog, PrimaryOf}
 use Rattle.bank_program.specs.ServedBank.{IsBankAfter}
 
-module _ {S : Type 0} (model : StoreModel S) where
+module _ {S K : Type 0} (model : StoreModel S) (keeps : K → List (Key × Call) → Type 0) where
   -- before any session
-  pub left_at_first : (saves : Bool) (bank : PrimaryOf S) → IsLog bank.log → HasWholeLog bank → IsBankAfter model saves 0 bank bank
-  left_at_first saves bank one_each all = record {
+  pub left_at_first : (saves : Bool) (bank : PrimaryOf S K) → IsLog bank.log → HasWholeLog bank → keeps bank.keeper bank.log
+      → IsBankAfter model keeps saves 0 bank bank
+  left_at_first saves bank one_each all told = record {
     bank = record { names = refl; opening = refl };
     one_each = one_each;
     all = all;
+    kept_log = told;
     kept = record { honest = λ honest. honest; stored = λ s some honest. absurd (omega (arith, some)); unchanged = λ s. refl };
   }
 
   -- one more session
-  pub left_after_next : (saves : Bool) (count : ℕ) (old mid new : PrimaryOf S) → IsBankAfter model saves count old mid
-      → IsBankAfter model saves 1 mid new → IsBankAfter model saves (count + 1) old new
+  pub left_after_next : (saves : Bool) (count : ℕ) (old mid new : PrimaryOf S K) → IsBankAfter model keeps saves count old mid
+      → IsBankAfter model keeps saves 1 mid new → IsBankAfter model keeps saves (count + 1) old new
   left_after_next saves count old mid new first next = record {
     bank = record { names = next.bank.names ∙ first.bank.names; opening = next.bank.opening ∙ first.bank.opening };
     one_each = next.one_each;
     all = next.all;
+    kept_log = next.kept_log;
     kept = record {
       honest = λ honest. next.kept.honest (first.kept.honest honest);
       stored = λ s some honest. next.kept.stored s (omega arith) (first.kept.honest honest);
       unchanged = λ s. next.kept.unchanged s ∙ first.kept.unchanged s;
+    };
+  }
+
+  -- behind the step that only executes the log
+  pub left_behind_first : (saves : Bool) (count : ℕ) (old mid new : PrimaryOf S K) → IsBankAfter model keeps false 1 old mid
+      → IsBankAfter model keeps saves count mid new → IsBankAfter model keeps saves count old new
+  left_behind_first saves count old mid new first next = record {
+    bank = record { names = next.bank.names ∙ first.bank.names; opening = next.bank.opening ∙ first.bank.opening };
+    one_each = next.one_each;
+    all = next.all;
+    kept_log = next.kept_log;
+    kept = record {
+      honest = λ honest. next.kept.honest (first.kept.honest honest);
+      stored = λ s some honest. next.kept.stored s some (first.kept.honest honest);
+      unchanged = λ s. next.kept.unchanged s ∙ first.kept.unchanged refl;
     };
   }

@@ -7,7 +7,7 @@ use Rattle.bank_server.specs.declared.fault.RunFault.{RunFault}
 use Rattle.bank_server.specs.declared.fault.RunFault.TheVariants.{Input, Strayed, CrewGone, Device, OutOfMemory}
 use Rattle.bank_program.specs.ServeFaults.{IsFinishFault, IsFinishRunFault}
 use Rattle.bank_program.specs.declared.serve_fault.ServeFault.{ServeFault}
-use Rattle.bank_program.specs.declared.serve_fault.ServeFault.TheVariants.{Run, ReadBack, Store, PortTaken}
+use Rattle.bank_program.specs.declared.serve_fault.ServeFault.TheVariants.{Run, ReadBack, Store, PortTaken, Log, AnotherOpening}
 
 -- a crew that may be gone may be gone for another reason too
 pub run_fault_if : {A B : Type 0} (fault : RunFault) → (A → B) → IsFinishRunFault A fault → IsFinishRunFault B fault
@@ -17,11 +17,14 @@ run_fault_if CrewGone f is = f is
 run_fault_if Device f is = is
 run_fault_if OutOfMemory f is = is
 
-pub finish_fault_if : {A B : Type 0} (saves : Bool) (fault : ServeFault) → (A → B) → IsFinishFault A saves fault → IsFinishFault B saves fault
-finish_fault_if saves (Run fault) f is = run_fault_if fault f is
-finish_fault_if saves ReadBack f is = is
-finish_fault_if saves Store f is = is
-finish_fault_if saves (PortTaken port) f is = is
+pub finish_fault_if : {A B : Type 0} (saves fails : Bool) (fault : ServeFault) → (A → B) → IsFinishFault A saves fails fault
+    → IsFinishFault B saves fails fault
+finish_fault_if saves fails (Run fault) f is = run_fault_if fault f is
+finish_fault_if saves fails ReadBack f is = is
+finish_fault_if saves fails Store f is = is
+finish_fault_if saves fails (PortTaken port) f is = is
+finish_fault_if saves fails (Log fault) f is = is
+finish_fault_if saves fails AnotherOpening f is = is
 
 -- over a board with no op out only a crew that keeps jobs is gone
 pub keeps_if : (keeps : Bool) (board : BoardOf Op) → HasNoneOut board → (keeps ≡ false → ¬ HasNoneOut board) → keeps ≡ true

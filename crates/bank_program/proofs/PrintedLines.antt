@@ -13,8 +13,8 @@ use Rattle.bank_server.specs.Primary.{PrimaryOf}
 use Rattle.bank_program.proofs.SessionsInOrder.{more_came, nobody, one_came}
 use Rattle.bank_program.specs.Sessions.{End, ServesFirst, IsSession, AcceptsNext}
 use Rattle.bank_program.specs.ServedBank.{IsSameBank}
-use Rattle.bank_program.specs.ServeOutput.{IsPortOf, ServerContinues, PrintsLines, ServesBank, end_lines, port_line, session_line, session_lines}
-use Rattle.bank_program.specs.inner.ServeSteps.{PrintsPort, PrintsRows, ServesAll, ServesNext}
+use Rattle.bank_program.specs.ServeOutput.{IsPortOf, log_lines, ServerContinues, PrintsLines, ServesBank, end_lines, port_line, session_line, session_lines}
+use Rattle.bank_program.specs.inner.ServeSteps.{PrintsLog, PrintsPort, PrintsRows, ServesAll, ServesNext}
 
 abbrev Log : Type 0
 Log = List (Key × Call)
@@ -83,10 +83,12 @@ module _ {T : Type 0} (sends : T → Option (List ℕ)) where
       }
 
   -- the port, the sessions, and the rows of the bank that is left
-  pub serves_bank : {S : Type 0} (first last : PrimaryOf S) (count : ℕ) (at : Option ℕ) (coming left : Option (List T)) (a b c d : Option (List ℕ))
-      → IsSameBank first last → first.log ≡ [] → PrintsPort at a b → ServesAll sends count coming left first.log last.log b c → PrintsRows last c d
-      → ServesBank sends first.node.names first.node.board.opening count at coming last.log a d
-  serves_bank first last count at coming left a b c d same none (port, listens, start) served rows =
+  pub serves_bank : {S K : Type 0} (opening : K → Option (List ℕ)) (first opened last : PrimaryOf S K) (count : ℕ) (at : Option ℕ)
+      (coming left : Option (List T)) (a b c d e f : Option (List ℕ))
+      → IsSameBank first last → opened.log ≡ first.log → PrintsLog opening opened a b → PrintsPort at b c
+      → ServesAll sends count coming left opened.log last.log c d → PrintsLog opening last d e → PrintsRows last e f
+      → ServesBank sends first.node.names first.node.board.opening count at coming first.log last.log (opening opened.keeper) (opening last.keeper) a f
+  serves_bank opening first opened last count at coming left a b c d e f same same_log first_line (port, listens, start) served last_line rows =
       let same_lines : end_lines last.node.names last.node.board.opening last.log ≡ end_lines first.node.names first.node.board.opening last.log =
       ap (λ (names : List (List ℕ)). end_lines names last.node.board.opening last.log) same.names
       ∙ ap (λ (opening : Balances). end_lines first.node.names opening last.log) same.opening in
@@ -98,8 +100,14 @@ module _ {T : Type 0} (sends : T → Option (List ℕ)) where
         all = served.all;
         go_on = served.go_on;
         left = left;
-        heard = subst (λ (log : Log). ServesFirst sends coming left log served.ends last.log) none served.heard;
-        printed = PrintsLines-trans a b d (port_line port ∷ []) (session_lines 1 served.ends ++ ended) start
-            (PrintsLines-trans b c d (session_lines 1 served.ends) ended served.printed
-            (subst (λ (ls : List (List ℕ)). PrintsLines ls c d) same_lines rows));
+        heard = subst (λ (log : Log). ServesFirst sends coming left log served.ends last.log) same_log served.heard;
+        printed =
+            let sessions = session_lines 1 served.ends in
+            let lines = log_lines (opening last.keeper) last.log in
+            let rest = PrintsLines-trans b e f ((port_line port ∷ sessions) ++ lines) ended
+            (PrintsLines-trans b d e (port_line port ∷ sessions) lines
+            (PrintsLines-trans b c d (port_line port ∷ []) sessions start served.printed) last_line)
+            (subst (λ (ls : List (List ℕ)). PrintsLines ls e f) same_lines rows) in
+            PrintsLines-trans a b f (log_lines (opening opened.keeper) first.log) (((port_line port ∷ sessions) ++ lines) ++ ended)
+            (subst (λ (log : Log). PrintsLines (log_lines (opening opened.keeper) log) a b) same_log first_line) rest;
       }

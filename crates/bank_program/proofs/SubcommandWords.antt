@@ -2,9 +2,9 @@
 use Rattle.std.proofs.Common.{◌≡◌, ℕ, string_bytes, ◌≤◌, ◌-◌, ◌∷◌, [], List, String, Option, Some, None, IfSome, arith, length, length-drop, take, drop, subst}
 use Rattle.std.proofs.lemmas.List.{take_all}
 use Rattle.std.specs.Prelude.{codes}
-use Rattle.bank_program.specs.inner.WordValues.{IsReadOf, IsRunOf, IsServeOf}
+use Rattle.bank_program.specs.inner.WordValues.{IsLogWordsOf, IsReadOf, IsRunOf, IsServeOf}
 use Rattle.bank_program.specs.declared.words.Words.{Words}
-use Rattle.bank_program.specs.declared.words.Words.TheVariants.{Run, Play, Serve}
+use Rattle.bank_program.specs.declared.words.Words.TheVariants.{Run, Play, Serve, Log}
 
 module _ {A : Type 0} where
   -- what all words after the first two say
@@ -30,16 +30,28 @@ module _ {A : Type 0} where
   run_says (Some (Run nodes workers)) (name ∷ []) named said = absurd named
   run_says (Some (Run nodes workers)) (name ∷ program ∷ options) named said = (named, said.0, said.1)
   run_says (Some Play) words named said = absurd said
-  run_says (Some (Serve port plan store)) words named said = absurd said
+  run_says (Some (Serve port plan store log)) words named said = absurd said
+  run_says (Some (Log folder action)) words named said = absurd said
 
   serve_says : (read : Option Words) (words : List (String A)) → IsSecond (codes "serve") words
       → IfSome read (λ r. IsServeOf (drop 2 words) r) → IfSome read (λ r. IsReadOf words r)
   serve_says None words named said = tt
   serve_says (Some (Run nodes workers)) words named said = absurd said
   serve_says (Some Play) words named said = absurd said
-  serve_says (Some (Serve port plan store)) [] named said = absurd named
-  serve_says (Some (Serve port plan store)) (name ∷ []) named said = absurd named
-  serve_says (Some (Serve port plan store)) (name ∷ program ∷ options) named said = (named, said.0, said.1)
+  serve_says (Some (Serve port plan store log)) [] named said = absurd named
+  serve_says (Some (Serve port plan store log)) (name ∷ []) named said = absurd named
+  serve_says (Some (Serve port plan store log)) (name ∷ program ∷ options) named said = (named, said.0, said.1)
+  serve_says (Some (Log folder action)) words named said = absurd said
+
+  log_says : (read : Option Words) (words : List (String A)) → IsSecond (codes "log") words
+      → IfSome read (λ r. IsLogWordsOf (drop 2 words) r) → IfSome read (λ r. IsReadOf words r)
+  log_says None words named said = tt
+  log_says (Some (Run nodes workers)) words named said = absurd said
+  log_says (Some Play) words named said = absurd said
+  log_says (Some (Serve port plan store log)) words named said = absurd said
+  log_says (Some (Log folder action)) [] named said = absurd named
+  log_says (Some (Log folder action)) (name ∷ []) named said = absurd named
+  log_says (Some (Log folder action)) (name ∷ program ∷ options) named said = (named, tt, said)
 
   -- for all words, those after `run`
   pub says_of : (read : Option Words) (words : List (String A)) → 2 ≤ length words → IsSecond (codes "run") words
@@ -50,3 +62,8 @@ module _ {A : Type 0} where
   pub says_of_serve : (read : Option Words) (words : List (String A)) → 2 ≤ length words → IsSecond (codes "serve") words
       → By IsServeOf read words → IfSome read (λ r. IsReadOf words r)
   says_of_serve read words long named said = serve_says read words named (all_after IsServeOf read words long said)
+
+  -- and those after `log`
+  pub says_of_log : (read : Option Words) (words : List (String A)) → 2 ≤ length words → IsSecond (codes "log") words
+      → By IsLogWordsOf read words → IfSome read (λ r. IsReadOf words r)
+  says_of_log read words long named said = log_says read words named (all_after IsLogWordsOf read words long said)

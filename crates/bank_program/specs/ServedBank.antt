@@ -1,5 +1,5 @@
 -- A served bank: its output, and what is left of it.
-use Rattle.std.specs.Prelude.{◌≡◌, ℕ, Bool, Option, List}
+use Rattle.std.specs.Prelude.{◌≡◌, ℕ, Bool, false, Option, List}
 use Rattle.sb_checkpoint.specs.Stores.{StoreModel}
 use Rattle.sb_calls.specs.declared.ask.Key.{Key}
 use Rattle.sb_calls.specs.declared.call.Call.{Call}
@@ -24,11 +24,14 @@ pub record IsBankAfter {S K : Type 0} (model : StoreModel S) (keeps : K → List
   pub kept_log : keeps new.keeper new.log
   pub kept : IsStoreAfter model saves sessions old.node.store new.node
 
--- a bank is served by this plan: its output and its log are as `ServesBank` says, and what is left of it
--- is as `IsBankAfter` says
+-- a bank is served by this plan: first its log is executed and kept; then its output and its log are as
+-- `ServesBank` says, with the openings of its keeper, and what is left of it is as `IsBankAfter` says
 pub record ServesByPlan {T S K : Type 0} (sends : T → Option (List ℕ)) (model : StoreModel S)
     (keeps : K → List (Key × Call) → Type 0) (opening : K → Option (List ℕ)) (plan : Plan) (at : Option ℕ)
     (coming : Option (List T)) (before after : PrimaryOf S K) (old new : Option (List ℕ)) : Type 0 where
+  pub opened : PrimaryOf S K
+  pub at_first : IsBankAfter model keeps false 1 before opened
+  pub same_log : opened.log ≡ before.log
   pub bank : ServesBank sends before.node.names before.node.board.opening plan.sessions at coming before.log after.log
-      (opening before.keeper) (opening after.keeper) old new
+      (opening opened.keeper) (opening after.keeper) old new
   pub left : IsBankAfter model keeps plan.saves plan.sessions before after
