@@ -57,7 +57,34 @@ fn faults_of_a_server_told(rt: HostRuntime) {
             3,
             "smallbank: port 4000 is taken",
         ),
+        (
+            ServeFault::Log(LogFault::InUse),
+            3,
+            "smallbank: log: in use",
+        ),
+        (
+            ServeFault::AnotherOpening,
+            3,
+            "smallbank: log: another opening",
+        ),
     ] {
         expect_told(&rt, rt.alloc(), ProgramFault::Serve(fault), status, text);
+    }
+}
+
+#[test]
+fn faults_of_a_log_told(rt: HostRuntime) {
+    let damaged = LogFault::Damaged {
+        byte: 105,
+        behind: 82,
+    };
+    for (fault, status, text) in [
+        (ListFault::Log(damaged), 1, "smallbank: log: damaged at byte 105"),
+        (ListFault::NoLog, 1, "smallbank: log: no log"),
+        (ListFault::Log(LogFault::Device), 3, "smallbank: log: device"),
+        (ListFault::Rest, 3, "smallbank: log: the rest can't be written"),
+        (ListFault::Device, 3, "smallbank: device"),
+    ] {
+        expect_told(&rt, rt.alloc(), ProgramFault::Log(fault), status, text);
     }
 }

@@ -204,7 +204,6 @@ fn stores_that_fail(rt: HostRuntime) {
 // A bank with this opening.
 fn bank_of(rt: &impl Abort, alloc: Global, opening: &[u8]) -> Box<Primary<MemoryStore>>
     ensures log { result.value.log ≡ [] }
-    ensures whole_log { HasWholeLog result.value }
     ensures opened { HasNoEntries result.value.node.board }
 {
     let opening = read_opening(alloc, opening).expect(rt, "an opening");

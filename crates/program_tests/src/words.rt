@@ -91,11 +91,13 @@ fn words_of_a_server(rt: HostRuntime) {
         port: 0,
         plan: SERVED_AS_USUAL,
         store: None,
+        log: None,
     };
     let all = Words::Serve {
         port: 65_535,
         plan: SERVED_AT_MOST,
         store: Some("a folder"),
+        log: None,
     };
     let port = ["--port=65535", "--sessions=1000"];
     expect(&rt, alloc, &["serve", "--port", "0"], usual);
@@ -133,6 +135,56 @@ fn words_of_a_server(rt: HostRuntime) {
     );
 }
 
+#[test]
+fn words_of_a_server_with_a_log(rt: HostRuntime) {
+    let alloc = rt.alloc();
+    let endless = Plan {
+        sessions: usize::MAX,
+        ..SERVED_AS_USUAL
+    };
+    let many = Plan {
+        sessions: 1_000_000,
+        ..SERVED_AS_USUAL
+    };
+    for (words, plan) in [
+        (["serve", "--port=0", "--log", "bank", "--nodes=1"], endless),
+        (["serve", "--log=bank", "--port", "0", "--sessions=1000000"], many),
+    ] {
+        let read = Words::Serve {
+            port: 0,
+            plan,
+            store: None,
+            log: Some("bank"),
+        };
+        expect(&rt, alloc, &words, read);
+    }
+}
+
+#[test]
+fn words_of_a_log(rt: HostRuntime) {
+    let alloc = rt.alloc();
+    let folder = "bank";
+    let of = |action| Words::Log { folder, action };
+    let asks = LogAction::List(Listing::Asks);
+    expect(&rt, alloc, &["log", "bank"], of(asks));
+    let cases = [
+        ("--rows", LogAction::List(Listing::Rows)),
+        ("--check", LogAction::List(Listing::Check)),
+        ("--cut", LogAction::Cut),
+    ];
+    for (flag, action) in cases {
+        expect(&rt, alloc, &["log", "bank", flag], of(action));
+        expect(&rt, alloc, &["log", flag, "bank"], of(action));
+    }
+    let refused: [(&[&str], &str); 4] = [
+        (&["log"], "<FOLDER>"),
+        (&["log", "bank", "other"], "other"),
+        (&["log", "bank", "--rows", "--check"], "one flag at most"),
+        (&["log", "bank", "--all"], "--all"),
+    ];
+    expect_refused(&rt, alloc, &refused);
+}
+
 // Each of these words is refused, with a text that has this part.
 fn expect_refused(rt: &impl Abort, alloc: Global, cases: &[(&[&str], &str)]) {
     for (words, part) in cases {
@@ -147,11 +199,11 @@ fn refused_words_of_a_server(rt: HostRuntime) {
         (&["serve", "--port", "http"], "<0..65535>"),
         (
             &["serve", "--sessions", "0", "--port=1"],
-            "0 is not in 1..=1000",
+            "0 is not in 1..=9223372036854775807",
         ),
         (
             &["serve", "--sessions", "1001", "--port=1"],
-            "1001 is not in 1..=1000",
+            "1 to 1000 sessions without a log",
         ),
         (
             &["serve", "--nodes", "17", "--port=1"],
