@@ -21,7 +21,8 @@ abbrev pub ask_lines_of : List (Key × Call) → List (List ℕ)
 ask_lines_of log = map (λ ask. ask_line (record { key = Some ask.0; call = ask.1 })) log
 
 -- the balances are those after a log, run one by one over the opening of a text
-pub record AreRowsAfter (text : List ℕ) (log : List (Key × Call)) (names : List (List ℕ)) (after : Balances) : Type 0 where
+pub record AreRowsAfter (text : List ℕ) (log : List (Key × Call)) (names : List (List ℕ))
+    (after : Balances) : Type 0 where
   pub opening : OpeningText
   pub read : opening_of text ≡ Ok opening
   pub names_are : names ≡ opening.names

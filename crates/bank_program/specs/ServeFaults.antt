@@ -54,3 +54,17 @@ IsProgramFault port plan stores logs Store = stores ≡ true
 IsProgramFault port plan stores logs (PortTaken taken) = taken ≡ port
 IsProgramFault port plan stores logs (Log fault) = logs ≡ true
 IsProgramFault port plan stores logs AnotherOpening = logs ≡ true
+
+-- a line of the opening is at fault, a device failed, or memory was refused
+abbrev pub IsOpeningRunFault : RunFault → Type 0
+IsOpeningRunFault (Strayed node) = ⊥
+IsOpeningRunFault CrewGone = ⊥
+IsOpeningRunFault other = Unit {0}
+
+-- the log has another opening, or can't be read or kept; or a line of the opening is at fault, or memory was
+-- refused
+abbrev pub IsBankFault : ServeFault → Type 0
+IsBankFault (Run fault) = IsOpeningRunFault fault
+IsBankFault (Log fault) = Unit {0}
+IsBankFault AnotherOpening = Unit {0}
+IsBankFault other = ⊥

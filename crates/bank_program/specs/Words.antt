@@ -92,13 +92,6 @@ IsFlagOf flag (action.List Rows) = flag ≡ codes "--rows"
 IsFlagOf flag (action.List Check) = flag ≡ codes "--check"
 IsFlagOf flag action.Cut = flag ≡ codes "--cut"
 
--- the words have this done with the log of this folder
-abbrev pub SaysLog : Words → List ℕ → LogAction → Type 0
-SaysLog (Run nodes workers) folder action = ⊥
-SaysLog Play folder action = ⊥
-SaysLog (Serve port plan store log) folder action = ⊥
-SaysLog (Log there done) folder action = (there.now ≡ folder) × (done ≡ action)
-
 -- a folder alone has its log's asks listed; with a flag before or behind it, that is done
 abbrev pub GivesLog : List ℕ → LogAction → List (List ℕ) → Type 0
 GivesLog folder done words = ((words ≡ folder ∷ []) × (done ≡ action.List Asks))

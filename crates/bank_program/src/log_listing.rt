@@ -61,7 +61,8 @@ pub fn list_log<F: LogFile, W: Write>(
     writer: &mut W,
 ) -> Result<(), ListFault>
     ensures content { F.IsHonest file.old → F.content file.new ≡ F.content file.old }
-    ensures listed { F.IsHonest file.old → OnOk result ((text : List ℕ) × (log : List (AnyKey × AnyCall)) × (rest : List ℕ)
+    ensures listed { F.IsHonest file.old → OnOk result ((text : List ℕ) × (log : List (AnyKey × AnyCall)) ×
+        (rest : List ℕ)
         × ReadsAskLog (F.content file.old) text log rest × (listed : List ℕ) × IsListing listing text log listed
         × Appends (W.contents writer.old) (W.contents writer.new) listed) }
     ensures fault { F.IsHonest file.old → IfErr result (IsListFault (F.content file.old)) }

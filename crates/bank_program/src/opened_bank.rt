@@ -5,7 +5,7 @@ ghost use Rattle.sb_ask_log.specs.LogFile.{log_bytes};
 ghost use Rattle.sb_ask_log.specs.Telling.{Tells};
 ghost use Rattle.bank_server.specs.Execution.{HasNoEntries};
 ghost use Rattle.bank_program.specs.OpenedBank.{IsBankOn, OpensOn, with_line_end};
-ghost use Rattle.bank_program.specs.inner.StepFaults.{IsBankFault};
+ghost use Rattle.bank_program.specs.ServeFaults.{IsBankFault};
 
 use crate::opening::whole_opening;
 use crate::serve_fault::ServeFault;

@@ -1,7 +1,8 @@
 //! The program's words.
 ghost use Rattle.std.specs.Prelude.{◌≡◌, IfErr, IfOk, IfSome, true, string_bytes};
 ghost use Rattle.clap.specs.Values.{kind_of};
-ghost use Rattle.bank_program.specs.Words.{InRange, IsFlagOf, IsPlanInRange, IsRefusal, NamesProgram, GivesValues, SaysLog, usual_sessions};
+ghost use Rattle.bank_program.specs.Words.{InRange, IsFlagOf, IsPlanInRange, IsRefusal, NamesProgram, GivesValues, usual_sessions};
+ghost use Rattle.bank_program.specs.inner.WordValues.{SaysLog};
 ghost use Rattle.bank_program.specs.inner.WordValues.{IsLogWordsOf, IsPlanOf, IsReadOf, IsRunOf, IsServeOf};
 
 use crate::command::command;

@@ -30,12 +30,6 @@ module _ {K : Type 0} (keeps : K → List (Key × Call) → Type 0) where
         two.3 ∙ ap (λ (l : List (Key × Call)). l ++ two.2) (append_assoc kept one.0 two.0),
       )
 
-  -- so a beginning is kept
-  pub still_begins : (old new : K) (old_log new_log : List (Key × Call)) → KeepsBeginning keeps old old_log
-      → KeepsOn keeps old old_log new new_log → KeepsBeginning keeps new new_log
-  still_begins old new old_log new_log begins on =
-      let more = on begins.0 begins.2 begins.1 begins.3 in (begins.0 ++ more.0, more.1, more.2, more.3)
-
   -- where the keeper stays and the log is the same or longer
   pub grown_on : (old new : K) (old_log new_log : List (Key × Call)) → new ≡ old → ExtendsLog old_log new_log
       → KeepsOn keeps old old_log new new_log

@@ -75,7 +75,8 @@ standing_other n call entry other =
 -- ---- places in a log that grows
 
 -- a key keeps its place
-pub place_kept : (log : List (Key × Call)) (entry : Key × Call) (key : Key) (k : ℕ) → index_of_key log key ≡ Some k → index_of_key (log ++ entry ∷ []) key ≡ Some k
+pub place_kept : (log : List (Key × Call)) (entry : Key × Call) (key : Key) (k : ℕ) → index_of_key log key ≡ Some k → index_of_key
+    (log ++ entry ∷ []) key ≡ Some k
 place_kept log entry key k e =
     let test = λ (ask : Key × Call). same_key key ask.0 in
     let at = position-Some test log k entry e in

@@ -42,18 +42,14 @@ pub record IsPrimary {S K : Type 0} (primary : PrimaryOf S K) : Type 0 where
   pub customers : SameCustomers primary.node.names primary.node.board.opening
   pub behind : HasPrefixOf (log_ops primary.node.names primary.log) primary.node.board
 
--- and its keeper keeps a beginning of the log
-pub record IsKeptPrimary {S K : Type 0} (keeps : K → List (Key × Call) → Type 0) (primary : PrimaryOf S K) : Type 0 where
-  pub valid : IsPrimary primary
-  pub begins : KeepsBeginning keeps primary.keeper primary.log
-
 -- node 0 has executed the whole log
 abbrev pub HasWholeLog : {S K : Type 0} → PrimaryOf S K → Type 0
 HasWholeLog primary = IsWholeLog (log_ops primary.node.names primary.log) primary.node.board
 
 -- node 0 keeps its identity, its names and its store, over the same opening, and what was kept of
 -- the log stays kept
-pub record PreservesBank {S K : Type 0} (keeps : K → List (Key × Call) → Type 0) (old new : PrimaryOf S K) : Type 0 where
+pub record PreservesBank {S K : Type 0} (keeps : K → List (Key × Call) → Type 0)
+    (old new : PrimaryOf S K) : Type 0 where
   pub rest : rest_of new.node ≡ rest_of old.node
   pub opening : new.node.board.opening ≡ old.node.board.opening
   pub kept : KeepsOn keeps old.keeper old.log new.keeper new.log

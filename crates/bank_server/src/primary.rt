@@ -48,7 +48,8 @@ pub struct Primary<S: CheckpointStore, K: Keeper = NoKeeper> {
 }
 
 impl<S: CheckpointStore, K: Keeper> Model for Primary<S, K> {
-    ghost use Rattle.bank_server.specs.Primary.{PrimaryOf, IsKeptPrimary};
+    ghost use Rattle.bank_server.specs.Primary.{PrimaryOf};
+    ghost use Rattle.bank_server.specs.inner.KeptPrimary.{IsKeptPrimary};
 
     ghost Value = { PrimaryOf S K };
 

@@ -32,7 +32,8 @@ impl<S: CheckpointStore> Duty for WholeLog<S> {
 
     ghost ready = { λ duty. HasNoEntries duty.primary.node.board };
 
-    ghost does = { λ duty nodes workers keeps answer. IfOk answer (λ node. RunsLog duty.primary.log duty.primary.node node.value)
+    ghost does = { λ duty nodes workers keeps answer. IfOk answer
+        (λ node. RunsLog duty.primary.log duty.primary.node node.value)
         × IfErr answer (IsTeamFault nodes keeps) };
 
     fn carry_out<R, C>(

@@ -9,32 +9,32 @@ use Rattle.sb_calls.specs.declared.call.Call.{Call}
 use Rattle.sb_frames.specs.Grammar.{spelling}
 use Rattle.sb_sequencer.specs.Numbering.{IsLog}
 use Rattle.sb_log.specs.Reading.{Begins}
-use Rattle.sb_log.specs.Records.{joined}
-use Rattle.sb_ask_log.specs.Asks.{IsAsk, asks_field, frame_of}
-use Rattle.sb_ask_log.specs.LogFile.{AreBodiesOf, IsOpeningText, log_bytes, magic}
+use Rattle.sb_log.specs.Records.{body_bytes}
+use Rattle.sb_ask_log.specs.Asks.{IsAsk, asks_field, ask_frame}
+use Rattle.sb_ask_log.specs.LogFile.{AreBodiesOf, IsOpeningText, log_bytes, log_magic}
 use Rattle.sb_ask_log.proofs.Fields.{fields_begin}
 use Rattle.sb_ask_log.proofs.Numbers.{no_log}
 
--- all batches joined
+-- all batches body_bytes
 abbrev pub all_of : List (List (Key × Call)) → List (Key × Call)
 all_of batches = flat_map (λ batch. batch) batches
 
-pub joined_fields : (batches : List (List (Key × Call))) → joined (map asks_field batches) ≡ asks_field (all_of batches)
+pub joined_fields : (batches : List (List (Key × Call))) → body_bytes (map asks_field batches) ≡ asks_field (all_of batches)
 joined_fields [] = refl
 joined_fields (batch ∷ batches) =
     ap (λ (l : List ℕ). asks_field batch ++ l) (joined_fields batches)
-    ∙ sym (flat_map-append (λ (ask : Key × Call). spelling (frame_of ask)) batch (all_of batches))
+    ∙ sym (flat_map-append (λ (ask : Key × Call). spelling (ask_frame ask)) batch (all_of batches))
 
--- the bodies, joined, are the log's bytes
+-- the bodies, body_bytes, are the log's bytes
 pub joined_log : (bodies : List (List ℕ)) (text : List ℕ) (log : List (Key × Call)) → AreBodiesOf bodies text log
-    → joined bodies ≡ log_bytes text log
+    → body_bytes bodies ≡ log_bytes text log
 joined_log bodies text log are =
-    ap joined are.bodies_are
-    ∙ ap (λ (l : List ℕ). (magic ++ text) ++ l) (joined_fields are.batches ∙ ap asks_field (sym are.log_is.log_is))
-    ∙ append_assoc magic text (asks_field log)
+    ap body_bytes are.bodies_are
+    ∙ ap (λ (l : List ℕ). (log_magic ++ text) ++ l) (joined_fields are.batches ∙ ap asks_field (sym are.log_is.log_is))
+    ∙ append_assoc log_magic text (asks_field log)
 
 -- an opening alone
-pub opened : (text : List ℕ) → IsOpeningText text → AreBodiesOf ((magic ++ text) ∷ []) text []
+pub opened : (text : List ℕ) → IsOpeningText text → AreBodiesOf ((log_magic ++ text) ∷ []) text []
 opened text is = record {
   batches = [];
   bodies_are = refl;
@@ -53,7 +53,7 @@ pub batch_more : (bodies : List (List ℕ)) (text : List ℕ) (log more : List (
 batch_more bodies text log more are some valid is = record {
   batches = are.batches ++ more ∷ [];
   bodies_are = ap (λ (l : List (List ℕ)). l ++ asks_field more ∷ []) are.bodies_are
-      ∙ ap (λ (l : List (List ℕ)). (magic ++ text) ∷ l) (sym (map-append asks_field are.batches (more ∷ [])));
+      ∙ ap (λ (l : List (List ℕ)). (log_magic ++ text) ∷ l) (sym (map-append asks_field are.batches (more ∷ [])));
   opening = are.opening;
   log_is = record {
     some = All-push (λ (batch : List (Key × Call)). batch ≢ []) are.batches more are.log_is.some some;
@@ -65,10 +65,10 @@ batch_more bodies text log more are some valid is = record {
 }
 
 -- the first body says the text
-pub text_of : (text other : List ℕ) (xs ys : List (List ℕ)) → (magic ++ text) ∷ xs ≡ (magic ++ other) ∷ ys → (text ≡ other) × (xs ≡ ys)
+pub text_of : (text other : List ℕ) (xs ys : List (List ℕ)) → (log_magic ++ text) ∷ xs ≡ (log_magic ++ other) ∷ ys → (text ≡ other) × (xs ≡ ys)
 text_of text other xs ys e =
-    let first : magic ++ text ≡ magic ++ other = cc in
-    (append_cancel_left magic text other first, cc)
+    let first : log_magic ++ text ≡ log_magic ++ other = cc in
+    (append_cancel_left log_magic text other first, cc)
 
 -- a log whose bodies begin those of another: the opening is the same, and its asks begin the other's
 pub bodies_begin : (front all : List (List ℕ)) (text other : List ℕ) (log longer : List (Key × Call))
@@ -76,9 +76,9 @@ pub bodies_begin : (front all : List (List ℕ)) (text other : List ℕ) (log lo
 bodies_begin front all text other log longer are these begins =
     let same = text_of other text (map asks_field these.batches) (map asks_field are.batches ++ begins.0)
     (sym these.bodies_are ∙ begins.1 ∙ ap (λ (l : List (List ℕ)). l ++ begins.0) are.bodies_are) in
-    let rest = joined begins.0 in
+    let rest = body_bytes begins.0 in
     let parted : asks_field longer ≡ asks_field log ++ rest =
-    ap asks_field these.log_is.log_is ∙ sym (joined_fields these.batches) ∙ ap joined same.1
+    ap asks_field these.log_is.log_is ∙ sym (joined_fields these.batches) ∙ ap body_bytes same.1
     ∙ flat_map-append (λ (body : List ℕ). body) (map asks_field are.batches) begins.0
     ∙ ap (λ (l : List ℕ). l ++ rest) (joined_fields are.batches ∙ ap asks_field (sym are.log_is.log_is)) in
     let more = fields_begin log longer rest are.log_is.valid these.log_is.valid parted in
@@ -87,6 +87,6 @@ bodies_begin front all text other log longer are these begins =
 -- one more batch of a log's bytes
 pub log_bytes_more : (text : List ℕ) (log more : List (Key × Call)) → log_bytes text (log ++ more) ≡ log_bytes text log ++ asks_field more
 log_bytes_more text log more =
-    ap (λ (l : List ℕ). magic ++ (text ++ l)) (flat_map-append (λ (ask : Key × Call). spelling (frame_of ask)) log more)
-    ∙ ap (λ (l : List ℕ). magic ++ l) (sym (append_assoc text (asks_field log) (asks_field more)))
-    ∙ sym (append_assoc magic (text ++ asks_field log) (asks_field more))
+    ap (λ (l : List ℕ). log_magic ++ (text ++ l)) (flat_map-append (λ (ask : Key × Call). spelling (ask_frame ask)) log more)
+    ∙ ap (λ (l : List ℕ). log_magic ++ l) (sym (append_assoc text (asks_field log) (asks_field more)))
+    ∙ sym (append_assoc log_magic (text ++ asks_field log) (asks_field more))

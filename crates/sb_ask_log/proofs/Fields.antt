@@ -13,7 +13,7 @@ use Rattle.sb_frames.specs.declared.frame.Frame.TheVariants.{Ask}
 use Rattle.sb_frames.proofs.Frames.{one_frame}
 use Rattle.sb_frames.proofs.Sizes.{body_size}
 use Rattle.sb_sequencer.specs.Numbering.{ask_of_number}
-use Rattle.sb_ask_log.specs.Asks.{IsAsk, asks_field, frame_of}
+use Rattle.sb_ask_log.specs.Asks.{IsAsk, asks_field, ask_frame}
 
 spelling_size : (frame : Frame) → IsFrame frame → length (spelling frame) ≤ 66
 unfolding spelling
@@ -32,11 +32,11 @@ ask_in : Frame → Option (Key × Call)
 ask_in (Ask client request call) = Some (record { client = client; request = request }, call)
 ask_in other = None
 
-same_ask : (p q : Key × Call) → frame_of p ≡ frame_of q → p ≡ q
+same_ask : (p q : Key × Call) → ask_frame p ≡ ask_frame q → p ≡ q
 unfolding ask_in
 same_ask p q e = same_Some p q (ap ask_in e)
 
-spells : (ask : Key × Call) → IsAsk ask → Spells (frame_of ask) (spelling (frame_of ask))
+spells : (ask : Key × Call) → IsAsk ask → Spells (ask_frame ask) (spelling (ask_frame ask))
 spells ask valid = record { valid = valid; spelled = refl }
 
 -- bytes of asks that begin with bytes of asks are those of these asks and more
@@ -44,21 +44,28 @@ pub fields_begin : (front all : List (Key × Call)) (rest : List ℕ) → All Is
     → (more : List (Key × Call)) × (all ≡ front ++ more) × (rest ≡ asks_field more)
 fields_begin [] all rest valid_front valid_all e = (all, refl, sym e)
 fields_begin (p ∷ front) [] rest valid_front valid_all e =
-    absurd (omega (arith, length-spelling (frame_of p), ap length e, length-append (spelling (frame_of p) ++ asks_field front) rest, length-append (spelling (frame_of p)) (asks_field front)))
+    absurd (omega (
+      arith,
+      length-spelling (ask_frame p),
+      ap length e,
+      length-append (spelling (ask_frame p) ++ asks_field front) rest,
+      length-append
+          (spelling (ask_frame p)) (asks_field front),
+    ))
 fields_begin (p ∷ front) (q ∷ all) rest valid_front valid_all e =
-    let here : spelling (frame_of q) ++ asks_field all ≡ spelling (frame_of p) ++ (asks_field front ++ rest) =
-    e ∙ append_assoc (spelling (frame_of p)) (asks_field front) rest in
-    let one = one_frame (frame_of q) (frame_of p) (spelling (frame_of q)) (spelling (frame_of p)) (asks_field all) (asks_field front ++ rest)
+    let here : spelling (ask_frame q) ++ asks_field all ≡ spelling (ask_frame p) ++ (asks_field front ++ rest) =
+    e ∙ append_assoc (spelling (ask_frame p)) (asks_field front) rest in
+    let one = one_frame (ask_frame q) (ask_frame p) (spelling (ask_frame q)) (spelling (ask_frame p)) (asks_field all) (asks_field front ++ rest)
     (spells q (All-head IsAsk q all valid_all)) (spells p (All-head IsAsk p front valid_front)) here in
     let same : q ≡ p = same_ask q p one.0 in
-    let behind = append_cancel_left (spelling (frame_of p)) (asks_field all) (asks_field front ++ rest)
+    let behind = append_cancel_left (spelling (ask_frame p)) (asks_field all) (asks_field front ++ rest)
     (ap (λ (l : List ℕ). l ++ asks_field all) (sym one.1) ∙ here) in
     let more = fields_begin front all rest (All-tail IsAsk p front valid_front) (All-tail IsAsk q all valid_all) behind in
     (more.0, ap (λ (ask : Key × Call). ask ∷ all) same ∙ ap (λ (l : List (Key × Call)). p ∷ l) more.1, more.2)
 
 no_asks : (asks : List (Key × Call)) → [] ≡ asks_field asks → asks ≡ []
 no_asks [] e = refl
-no_asks (p ∷ asks) e = absurd (omega (arith, length-spelling (frame_of p), ap length e, length-append (spelling (frame_of p)) (asks_field asks)))
+no_asks (p ∷ asks) e = absurd (omega (arith, length-spelling (ask_frame p), ap length e, length-append (spelling (ask_frame p)) (asks_field asks)))
 
 -- asks with the same bytes are the same
 pub same_fields : (a b : List (Key × Call)) → All IsAsk a → All IsAsk b → asks_field b ≡ asks_field a → b ≡ a
@@ -68,38 +75,22 @@ same_fields a b valid_a valid_b e =
 
 -- ---- one more ask
 
--- what the loop over the bytes keeps
-abbrev pub Replayed : List ℕ → List ℕ → List (Key × Call) → List (Key × Call) → Type 0
-Replayed bytes rest before log = (asks : List (Key × Call)) × All IsAsk asks × (bytes ≡ asks_field asks ++ rest) × (log ≡ before ++ asks)
-
-pub one_more : (bytes rest : List ℕ) (before log longer : List (Key × Call)) (ask : Key × Call) (size : ℕ) → Replayed bytes rest before log
-    → IsAsk ask → take size rest ≡ spelling (frame_of ask) → longer ≡ log ++ ask ∷ [] → Replayed bytes (drop size rest) before longer
-one_more bytes rest before log longer ask size so_far valid front grown =
-    let asks = so_far.0 in
-    let field = spelling (frame_of ask) in (
-      asks ++ ask ∷ [],
-      All-push IsAsk asks ask so_far.1 valid,
-      so_far.2 ∙ ap (λ (l : List ℕ). asks_field asks ++ l) (sym (take-append-drop size rest) ∙ ap (λ (l : List ℕ). l ++ drop size rest) front)
-          ∙ sym (append_assoc (asks_field asks) field (drop size rest))
-          ∙ ap (λ (l : List ℕ). l ++ drop size rest) (flat_map_more (λ (it : Key × Call). spelling (frame_of it)) [] asks ask),
-      grown ∙ ap (λ (l : List (Key × Call)). l ++ ask ∷ []) so_far.3 ∙ append_assoc before asks (ask ∷ []),
-    )
-
 -- ---- the loop that spells asks
 
 pub one_spelled : (log : List (Key × Call)) (from before : ℕ) (start out longer cells : List ℕ) (ask : Key × Call) → from ≤ before → before < length log
-    → ask_of_number log (before + 1) ≡ Some ask → Spells (frame_of ask) cells
+    → ask_of_number log (before + 1) ≡ Some ask → Spells (ask_frame ask) cells
     → out ≡ start ++ asks_field (drop from (take before log)) → All IsAsk (drop from (take before log)) → longer ≡ out ++ cells
     → (longer ≡ start ++ asks_field (drop from (take (before + 1) log))) × All IsAsk (drop from (take (before + 1) log))
 one_spelled log from before start out longer cells ask le lt is spelled so_far valid grown =
     let there : slice_get log before ≡ Some ask = subst (λ n. ask_of_number log n ≡ Some ask) (add-one before) is in
     let next : drop from (take (before + 1) log) ≡ drop from (take before log) ++ ask ∷ [] =
-    ap (λ (l : List (Key × Call)). drop from l) (take_more log before ask lt ∙ ap (λ (a : Key × Call). take before log ++ a ∷ []) (get_or_from_slice_get log before ask ask there))
+    ap (λ (l : List (Key × Call)). drop from l) (take_more log before ask lt ∙ ap (λ (a : Key × Call). take before log ++ a ∷ [])
+    (get_or_from_slice_get log before ask ask there))
     ∙ drop-append-le from (take before log) (ask ∷ []) (omega (arith, le, lt, length-take-le before log (omega (arith, lt)))) in
     let asks = drop from (take before log) in (
       grown ∙ ap (λ (l : List ℕ). l ++ cells) so_far ∙ ap (λ (c : List ℕ). start ++ asks_field asks ++ c) spelled.spelled
-          ∙ append_assoc start (asks_field asks) (spelling (frame_of ask))
-          ∙ ap (λ (l : List ℕ). start ++ l) (flat_map_more (λ (it : Key × Call). spelling (frame_of it)) [] asks ask)
+          ∙ append_assoc start (asks_field asks) (spelling (ask_frame ask))
+          ∙ ap (λ (l : List ℕ). start ++ l) (flat_map_more (λ (it : Key × Call). spelling (ask_frame it)) [] asks ask)
           ∙ ap (λ (l : List (Key × Call)). start ++ asks_field l) (sym next),
       subst (All IsAsk) (sym next) (All-push IsAsk asks ask valid spelled.valid),
     )
@@ -108,7 +99,13 @@ one_spelled log from before start out longer cells ask le lt is spelled so_far v
 length-field : (asks : List (Key × Call)) → All IsAsk asks → length (asks_field asks) ≤ 66 * length asks
 length-field [] valid = omega arith
 length-field (p ∷ asks) valid =
-    omega (arith, length-field asks (All-tail IsAsk p asks valid), length-append (spelling (frame_of p)) (asks_field asks), spelling_size (frame_of p) (All-head IsAsk p asks valid))
+    omega (
+      arith,
+      length-field asks (All-tail IsAsk p asks valid),
+      length-append (spelling (ask_frame p)) (asks_field asks),
+      spelling_size (ask_frame p)
+          (All-head IsAsk p asks valid),
+    )
 
 pub fits_record : (asks : List (Key × Call)) → All IsAsk asks → length asks ≤ 1000000 → length (asks_field asks) < 2 ^ 32
 fits_record asks valid few = omega (arith, length-field asks valid, few)
@@ -117,10 +114,10 @@ fits_record asks valid few = omega (arith, length-field asks valid, few)
 
 -- what asks' bytes begin with
 pub first_of_field : (bytes : List ℕ) (asks : List (Key × Call)) → asks ≢ [] → All IsAsk asks → bytes ≡ asks_field asks
-    → (ask : Key × Call) × (k : ℕ) × (k ≤ length bytes) × Spells (frame_of ask) (take k bytes)
+    → (ask : Key × Call) × (k : ℕ) × (k ≤ length bytes) × Spells (ask_frame ask) (take k bytes)
 first_of_field bytes [] some valid e = absurd (some refl)
 first_of_field bytes (p ∷ asks) some valid e =
-    let field = spelling (frame_of p) in
+    let field = spelling (ask_frame p) in
     let front : take (length field) bytes ≡ field = ap (λ (l : List ℕ). take (length field) l) e ∙ take_at field (asks_field asks) (length field) refl in (
       p,
       length field,
@@ -131,4 +128,4 @@ first_of_field bytes (p ∷ asks) some valid e =
 -- asks take some bytes
 pub field_filled : (asks : List (Key × Call)) → asks ≢ [] → 0 < length (asks_field asks)
 field_filled [] some = absurd (some refl)
-field_filled (p ∷ asks) some = omega (arith, length-spelling (frame_of p), length-append (spelling (frame_of p)) (asks_field asks))
+field_filled (p ∷ asks) some = omega (arith, length-spelling (ask_frame p), length-append (spelling (ask_frame p)) (asks_field asks))

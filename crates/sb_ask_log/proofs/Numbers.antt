@@ -18,10 +18,6 @@ use Rattle.sb_sequencer.proofs.Keys.{same_key_same}
 pub no_log : IsLog []
 no_log = record { limit = omega arith; different = λ i j d lt bound. absurd (omega (arith, lt, bound)) }
 
--- a full log takes none
-pub takes_no_more : (log more : List (Key × Call)) (ask : Key × Call) → LOG_CALLS ≤ length log → IsLog (log ++ ask ∷ more) → ⊥
-takes_no_more log more ask full is = omega (arith, full, is.limit, length-append log (ask ∷ more))
-
 -- no log takes a key again
 pub takes_no_key_again : (log more : List (Key × Call)) (ask : Key × Call) (k : ℕ) → index_of_key log ask.0 ≡ Some k → IsLog (log ++ ask ∷ more) → ⊥
 takes_no_key_again log more ask k there is =

@@ -8,17 +8,17 @@ use Rattle.sb_calls.specs.declared.ask.Key.{Key}
 use Rattle.sb_calls.specs.declared.call.Call.{Call}
 use Rattle.sb_log.specs.Lives.{Append, Crash, Happens, HappensAll, Life, ReadBack, Sync, newborn}
 use Rattle.sb_log.specs.LogCalls.{IsDamagedAt, IsFileOf, ReadsLog, ReadsTo, Recovers}
-use Rattle.sb_log.specs.Reading.{Begins, IsTorn, Reads}
-use Rattle.sb_log.specs.Records.{IsBody, joined, record_after, records}
+use Rattle.sb_log.specs.Reading.{Begins, IsTorn, ReadsRecords}
+use Rattle.sb_log.specs.Records.{IsBody, body_bytes, record_after, records}
 use Rattle.sb_log.specs.Replaying.{HoldsReplayed, ReplaysAll}
 use Rattle.sb_log.specs.declared.log_end.LogEnd.{LogEnd}
 use Rattle.sb_log.specs.declared.log_fault.LogFault.{LogFault}
 use Rattle.sb_log.specs.declared.log_fault.LogFault.TheVariants.{Damaged, Device, InUse, OutOfMemory}
 use Rattle.sb_log.proofs.Lives.{keeps_what_it_told}
 use Rattle.sb_log.proofs.Records.{records_push}
-use Rattle.sb_ask_log.specs.LogFile.{AreBodiesOf, log_bytes, magic}
+use Rattle.sb_ask_log.specs.LogFile.{AreBodiesOf, log_bytes, log_magic}
 use Rattle.sb_ask_log.specs.Recovery.{AreRead, IsDamagedAskLog, IsReadFault, IsUnchangedIfDamaged, ReadsAskLog}
-use Rattle.sb_ask_log.specs.Replaying.{AskReplayOf, RefusesBody, TakesBody}
+use Rattle.sb_ask_log.specs.inner.Replaying.{AskReplayOf, RefusesBody, TakesBody}
 use Rattle.sb_ask_log.specs.Telling.{RecoversWhatItTold, Tells}
 use Rattle.sb_ask_log.proofs.Bodies.{bodies_begin, joined_log}
 use Rattle.sb_ask_log.proofs.Openings.{opening_filled}
@@ -64,8 +64,8 @@ damage_is content byte behind d =
       byte_is = d.byte_is;
       behind_is = d.behind_is;
       why = ⊎_elim
-          (λ (no_record : Reads content d.bodies d.rest × (IsTorn d.rest → ⊥)). inl no_record)
-          (λ (refused : (body more : List ℕ) × IsBody body × (d.rest ≡ record_after (joined d.bodies) body ++ more) × RefusesBody d.mid body).
+          (λ (no_record : ReadsRecords content d.bodies d.rest × (IsTorn d.rest → ⊥)). inl no_record)
+          (λ (refused : (body more : List ℕ) × IsBody body × (d.rest ≡ record_after (body_bytes d.bodies) body ++ more) × RefusesBody d.mid body).
           inr (refused.0, refused.1, refused.2, refused.3, no_longer_log d.bodies d.mid refused.0 are refused.4))
           d.why;
     }
@@ -111,7 +111,7 @@ tells_all : (done bodies : List (List ℕ)) → All IsBody bodies → HappensAll
 tells_all done [] fit = (all_told done, (refl, refl), ap all_told (append-nil done))
 tells_all done (body ∷ bodies) fit =
     let longer = done ++ body ∷ [] in
-    let one : appended longer ≡ record (appended done) { content = records done ++ record_after (joined done) body; given = longer } =
+    let one : appended longer ≡ record (appended done) { content = records done ++ record_after (body_bytes done) body; given = longer } =
     λ i. record { content = records_push done body i; synced = 0; given = longer; told = []; healthy = true } in (
       appended longer,
       (refl, All-head IsBody body bodies fit, one),
@@ -149,7 +149,7 @@ recovered_empty content content_new synced synced_new bodies rest end new l m r 
 read_behind : (told bodies : List (List ℕ)) (text read_text : List ℕ) (asks read : List (Key × Call)) → AreBodiesOf told text asks → Begins told bodies
     → AreRead bodies read_text read → AreBodiesOf bodies read_text read
 read_behind told [] text read_text asks read are begins it =
-    let none : [] ≡ (magic ++ text) ∷ _ = begins.1 ∙ ap (λ (l : List (List ℕ)). l ++ begins.0) are.bodies_are in
+    let none : [] ≡ (log_magic ++ text) ∷ _ = begins.1 ∙ ap (λ (l : List (List ℕ)). l ++ begins.0) are.bodies_are in
     absurd (cc (none))
 read_behind told (body ∷ bodies) text read_text asks read are begins it = it
 
@@ -161,7 +161,7 @@ recovers_what_it_told content synced failed hasher text told tells kept read_tex
     λ i. take (max (sym tells.file.file.synced_is i) kept) (sym tells.file.file.content_is i) in
     let begins = keeps_what_it_told (tells.events ++ Crash kept ∷ []) crashed reads.bodies rest
     (happens_more tells.events newborn l crashed (Crash kept) tells.lived refl)
-    (subst (λ (c : List ℕ). Reads c reads.bodies rest) left reads.reads) in
+    (subst (λ (c : List ℕ). ReadsRecords c reads.bodies rest) left reads.reads) in
     bodies_begin l.told reads.bodies text read_text told read tells.told_are
     (read_behind l.told reads.bodies text read_text told read tells.told_are begins.0 reads.are) begins.0
 

@@ -8,22 +8,22 @@ use Rattle.std.proofs.lemmas.List.Elements.{All-drop, All-head, All-take}
 use Rattle.sb_calls.specs.declared.ask.Key.{Key}
 use Rattle.sb_calls.specs.declared.call.Call.{Call}
 use Rattle.sb_sequencer.specs.Numbering.{IsLog}
-use Rattle.sb_log.specs.Records.{joined}
+use Rattle.sb_log.specs.Records.{body_bytes}
 use Rattle.sb_log.specs.Replaying.{IsReplayFault, ReplaysAll}
 use Rattle.sb_log.specs.declared.replay.ReplayFault.{ReplayFault}
 use Rattle.sb_log.specs.declared.replay.ReplayFault.TheVariants.{OutOfMemory, Refused}
 use Rattle.sb_ask_log.specs.Asks.{IsAsk, asks_field}
-use Rattle.sb_ask_log.specs.LogFile.{AreBodiesOf, IsOpeningText, magic}
+use Rattle.sb_ask_log.specs.LogFile.{AreBodiesOf, IsOpeningText, log_magic}
 use Rattle.sb_ask_log.specs.Recovery.{AreRead}
-use Rattle.sb_ask_log.specs.Replaying.{AskReplayOf, RefusesBody, TakesBatch, TakesBody, TakesOpening}
+use Rattle.sb_ask_log.specs.inner.Replaying.{AskReplayOf, RefusesBody, TakesBatch, TakesBody, TakesOpening}
 use Rattle.sb_ask_log.proofs.Bodies.{all_of, batch_more, joined_fields, opened, text_of}
 use Rattle.sb_ask_log.proofs.Fields.{same_fields}
 use Rattle.sb_ask_log.proofs.Openings.{opening_filled}
 
 -- the first body was taken, or no log has it
 pub opening_taken : (old new : AskReplayOf) (body : List ℕ) → old.text ≡ [] → new.log ≡ old.log → (result : Result (Unit {0}) ReplayFault)
-    → MatchResult result (λ done. (body ≡ magic ++ new.text) × IsOpeningText new.text)
-    (IsReplayFault ((other : List ℕ) → body ≡ magic ++ other → IsOpeningText other → ⊥))
+    → MatchResult result (λ done. (body ≡ log_magic ++ new.text) × IsOpeningText new.text)
+    (IsReplayFault ((other : List ℕ) → body ≡ log_magic ++ other → IsOpeningText other → ⊥))
     → MatchResult result (λ done. TakesBody old body new) (IsReplayFault (RefusesBody old body))
 opening_taken old new body first same (Ok done) taken =
     inl (record { first = first; body_is = taken.0; opening = taken.1; log_is = same })
@@ -64,7 +64,7 @@ taken_are (body ∷ bodies) new all =
     let first : AreBodiesOf (body ∷ []) mid.text mid.log = ⊎_elim
     (λ (t : TakesOpening nothing_taken body mid).
     let alone = opened mid.text t.opening in
-    let log_is = subst (AreBodiesOf ((magic ++ mid.text) ∷ []) mid.text) (sym t.log_is) alone in
+    let log_is = subst (AreBodiesOf ((log_magic ++ mid.text) ∷ []) mid.text) (sym t.log_is) alone in
     subst (λ (b : List ℕ). AreBodiesOf (b ∷ []) mid.text mid.log) (sym t.body_is) log_is)
     (λ (t : TakesBatch nothing_taken body mid). absurd (t.opened refl))
     all.1 in
@@ -109,7 +109,7 @@ behind_valid front behind valid =
 pub no_longer_log : (bodies : List (List ℕ)) (mid : AskReplayOf) (body : List ℕ) → AreRead bodies mid.text mid.log → RefusesBody mid body
     → (text : List ℕ) (longer : List (Key × Call)) → AreRead (bodies ++ body ∷ []) text longer → ⊥
 no_longer_log [] mid body read refuses text longer are =
-    let same : body ≡ magic ++ text = cc (are.bodies_are) in
+    let same : body ≡ log_magic ++ text = cc (are.bodies_are) in
     refuses (record { text = text; log = mid.log }) (inl (record { first = read.0; body_is = same; opening = are.opening; log_is = refl }))
 no_longer_log (b ∷ bs) mid body read refuses text longer are =
     let same = text_of text mid.text (map asks_field are.batches) (map asks_field read.batches ++ body ∷ [])
@@ -120,7 +120,7 @@ no_longer_log (b ∷ bs) mid body read refuses text longer are =
     ∙ ap (λ (l : List (Key × Call)). all_of s.first ++ l) (append-nil s.batch) in
     let valid : All IsAsk (all_of s.first ++ s.batch) = subst (All IsAsk) parts are.log_is.valid in
     let field : asks_field (all_of s.first) ≡ asks_field mid.log =
-    sym (joined_fields s.first) ∙ ap joined s.front_is ∙ joined_fields read.batches ∙ ap asks_field (sym read.log_is.log_is) in
+    sym (joined_fields s.first) ∙ ap body_bytes s.front_is ∙ joined_fields read.batches ∙ ap asks_field (sym read.log_is.log_is) in
     let front : all_of s.first ≡ mid.log =
     same_fields mid.log (all_of s.first) read.log_is.valid (front_valid (all_of s.first) s.batch valid) field in
     let Some : List (Key × Call) → Type 0 = λ batch. batch ≢ [] in

@@ -12,7 +12,7 @@ use Rattle.sb_log.specs.LogCalls.{Appends, IsLogOf, Syncs}
 use Rattle.sb_log.specs.declared.log_fault.LogFault.{LogFault}
 use Rattle.sb_log.specs.declared.log_fault.LogFault.TheVariants.{Damaged, Device, InUse, OutOfMemory}
 use Rattle.sb_ask_log.specs.Asks.{IsAsk, asks_field}
-use Rattle.sb_ask_log.specs.LogFile.{AreBodiesOf, IsOpeningText, magic}
+use Rattle.sb_ask_log.specs.LogFile.{AreBodiesOf, IsOpeningText, log_magic}
 use Rattle.sb_ask_log.specs.Telling.{Tells}
 use Rattle.sb_ask_log.proofs.Bodies.{batch_more, opened}
 
@@ -63,7 +63,8 @@ tells_more content content_new synced synced_new failed failed_new hasher hasher
     record {
       l = n;
       events = (tells.events ++ Append body ∷ []) ++ Sync ∷ [];
-      lived = happens_more (tells.events ++ Append body ∷ []) newborn m n Sync (happens_more tells.events newborn l m (Append body) tells.lived appended) synced_now;
+      lived = happens_more (tells.events ++ Append body ∷ []) newborn m n Sync (happens_more tells.events newborn l m
+          (Append body) tells.lived appended) synced_now;
       file = is;
       told_are = subst (λ (k : Life). AreBodiesOf k.told text log) (sym synced_now.1) all;
       given = log;
@@ -77,16 +78,17 @@ given_more : (content content_new : List ℕ) (synced synced_new : ℕ) (failed 
     → tells.l.healthy ≡ true → (events : List Event) (n : Life) → HappensAll newborn events n → n.told ≡ tells.l.told
     → n.given ≡ tells.l.given ++ body ∷ [] → IsLogOf content_new synced_new failed_new hasher_new n → failed_new ≡ true
     → Tells content_new synced_new failed_new hasher_new text (take saved log)
-given_more content content_new synced synced_new failed failed_new hasher hasher_new text log saved body rest tells healthy events n lived told given is ill = record {
-  l = n;
-  events = events;
-  lived = lived;
-  file = is;
-  told_are = subst (λ (b : List (List ℕ)). AreBodiesOf b text (take saved log)) (sym told) tells.told_are;
-  given = log;
-  given_are = subst (λ (b : List (List ℕ)). AreBodiesOf b text log) (sym given) (given_all text log saved body rest tells healthy);
-  only = λ f. absurd (true≢false (sym ill ∙ f));
-}
+given_more content content_new synced synced_new failed failed_new hasher hasher_new text log saved body rest tells healthy events n lived told given is ill
+    = record {
+      l = n;
+      events = events;
+      lived = lived;
+      file = is;
+      told_are = subst (λ (b : List (List ℕ)). AreBodiesOf b text (take saved log)) (sym told) tells.told_are;
+      given = log;
+      given_are = subst (λ (b : List (List ℕ)). AreBodiesOf b text log) (sym given) (given_all text log saved body rest tells healthy);
+      only = λ f. absurd (true≢false (sym ill ∙ f));
+    }
 
 -- nothing happened, and the log had failed
 unmoved : (content content_new : List ℕ) (synced synced_new : ℕ) (failed failed_new : Bool) (hasher hasher_new : Sha256) (text : List ℕ)
@@ -116,7 +118,8 @@ append_failed content content_new synced synced_new failed failed_new hasher has
     (λ (stays : (tells.l.healthy ≡ false) × (m ≡ tells.l)).
     unmoved content content_new synced synced_new failed failed_new hasher hasher_new text (take saved log) tells m stays.1 is ill)
     how
-append_failed content content_new synced synced_new failed failed_new hasher hasher_new text log saved body (Damaged byte behind) rest tells m how is ill = absurd how
+append_failed content content_new synced synced_new failed failed_new hasher hasher_new text log saved body
+    (Damaged byte behind) rest tells m how is ill = absurd how
 append_failed content content_new synced synced_new failed failed_new hasher hasher_new text log saved body OutOfMemory rest tells m how is ill = absurd how
 append_failed content content_new synced synced_new failed failed_new hasher hasher_new text log saved body InUse rest tells m how is ill = absurd how
 
@@ -138,12 +141,14 @@ sync_failed content content_new synced synced_new failed failed_new hasher hashe
     given_more content content_new synced synced_new failed failed_new hasher hasher_new text log saved body rest tells appended.0
     given m lived told_is given_is (subst (IsLogOf content_new synced_new failed_new hasher_new) stays.1 is) ill)
     how
-sync_failed content content_new synced synced_new failed failed_new hasher hasher_new text log saved body (Damaged byte behind) rest tells m n appended how is ill = absurd how
-sync_failed content content_new synced synced_new failed failed_new hasher hasher_new text log saved body OutOfMemory rest tells m n appended how is ill = absurd how
+sync_failed content content_new synced synced_new failed failed_new hasher hasher_new text log saved body
+    (Damaged byte behind) rest tells m n appended how is ill = absurd how
+sync_failed content content_new synced synced_new failed failed_new hasher hasher_new text log saved body OutOfMemory rest tells m n appended how is ill =
+    absurd how
 sync_failed content content_new synced synced_new failed failed_new hasher hasher_new text log saved body InUse rest tells m n appended how is ill = absurd how
 
 -- an opening was appended and synced
-pub tells_opening : (content : List ℕ) (synced : ℕ) (failed : Bool) (hasher : Sha256) (text body : List ℕ) (m n : Life) → body ≡ magic ++ text
+pub tells_opening : (content : List ℕ) (synced : ℕ) (failed : Bool) (hasher : Sha256) (text body : List ℕ) (m n : Life) → body ≡ log_magic ++ text
     → IsOpeningText text → Happens newborn (Append body) m → Happens m Sync n → IsLogOf content synced failed hasher n
     → Tells content synced failed hasher text []
 tells_opening content synced failed hasher text body m n body_is opening appended synced_now is =

@@ -11,7 +11,7 @@ use Rattle.sb_sequencer.specs.Numbering.{IsLog}
 use Rattle.sb_log.specs.Replaying.{IsReplayFault}
 use Rattle.sb_log.specs.declared.replay.ReplayFault.{ReplayFault}
 use Rattle.sb_log.specs.declared.replay.ReplayFault.TheVariants.{OutOfMemory, Refused}
-use Rattle.sb_ask_log.specs.Asks.{IsAsk, asks_field, frame_of}
+use Rattle.sb_ask_log.specs.Asks.{IsAsk, asks_field, ask_frame}
 use Rattle.sb_ask_log.proofs.Fields.{fields_begin}
 
 -- what the loop over a body keeps: which asks are taken, and what is left
@@ -22,46 +22,31 @@ pub record Taken (body rest : List ℕ) (before log : List (Key × Call)) : Type
   pub log_is : log ≡ before ++ asks
   pub is_log : asks ≢ [] → IsLog log
 
-pub none_taken : (body : List ℕ) (log : List (Key × Call)) → Taken body body log log
-none_taken body log = record {
-  asks = [];
-  valid = All-nil IsAsk;
-  body_is = refl;
-  log_is = sym (append-nil log);
-  is_log = λ some. absurd (some refl);
-}
-
 -- one more ask is
 pub one_taken : (body rest : List ℕ) (before log longer : List (Key × Call)) (ask : Key × Call) (size : ℕ) → Taken body rest before log
-    → IsAsk ask → take size rest ≡ spelling (frame_of ask) → longer ≡ log ++ ask ∷ [] → IsLog longer → Taken body (drop size rest) before longer
+    → IsAsk ask → take size rest ≡ spelling (ask_frame ask) → longer ≡ log ++ ask ∷ [] → IsLog longer → Taken body (drop size rest) before longer
 one_taken body rest before log longer ask size taken valid front grown is =
-    let field = spelling (frame_of ask) in
+    let field = spelling (ask_frame ask) in
     record {
       asks = taken.asks ++ ask ∷ [];
       valid = All-push IsAsk taken.asks ask taken.valid valid;
-      body_is = taken.body_is ∙ ap (λ (l : List ℕ). asks_field taken.asks ++ l) (sym (take-append-drop size rest) ∙ ap (λ (l : List ℕ). l ++ drop size rest) front)
+      body_is = taken.body_is ∙ ap (λ (l : List ℕ). asks_field taken.asks ++ l) (sym (take-append-drop size rest) ∙ ap (λ
+          (l : List ℕ). l ++ drop size rest) front)
           ∙ sym (append_assoc (asks_field taken.asks) field (drop size rest))
-          ∙ ap (λ (l : List ℕ). l ++ drop size rest) (flat_map_more (λ (it : Key × Call). spelling (frame_of it)) [] taken.asks ask);
+          ∙ ap (λ (l : List ℕ). l ++ drop size rest) (flat_map_more (λ (it : Key × Call). spelling (ask_frame it)) [] taken.asks ask);
       log_is = grown ∙ ap (λ (l : List (Key × Call)). l ++ ask ∷ []) taken.log_is ∙ append_assoc before taken.asks (ask ∷ []);
       is_log = λ some. is;
     }
 
--- all are taken
-pub all_taken : (body rest : List ℕ) (before log : List (Key × Call)) → Taken body rest before log → body ≢ [] → rest ≡ []
-    → (batch : List (Key × Call)) × (batch ≢ []) × All IsAsk batch × (body ≡ asks_field batch) × (log ≡ before ++ batch) × IsLog log
-all_taken body rest before log taken filled ended =
-    let is : body ≡ asks_field taken.asks =
-    taken.body_is ∙ ap (λ (l : List ℕ). asks_field taken.asks ++ l) ended ∙ append-nil (asks_field taken.asks) in
-    let some : taken.asks ≢ [] = λ none. filled (is ∙ ap asks_field none) in
-    (taken.asks, some, taken.valid, is, taken.log_is, taken.is_log some)
-
 -- what a batch with this body has behind the asks that are taken
 behind_taken : (body rest : List ℕ) (before log : List (Key × Call)) → Taken body rest before log → (batch : List (Key × Call)) → All IsAsk batch
-    → body ≡ asks_field batch → rest ≢ [] → (more : List (Key × Call)) × (before ++ batch ≡ log ++ more) × (rest ≡ asks_field more) × (more ≢ []) × All IsAsk more
+    → body ≡ asks_field batch → rest ≢ [] → (more : List (Key × Call)) × (before ++ batch ≡ log ++ more) × (rest ≡ asks_field more) × (more ≢ [])
+    × All IsAsk more
 behind_taken body rest before log taken batch valid e filled =
     let more = fields_begin taken.asks batch rest taken.valid valid (sym e ∙ taken.body_is) in (
       more.0,
-      ap (λ (l : List (Key × Call)). before ++ l) more.1 ∙ sym (append_assoc before taken.asks more.0) ∙ ap (λ (l : List (Key × Call)). l ++ more.0) (sym taken.log_is),
+      ap (λ (l : List (Key × Call)). before ++ l) more.1 ∙ sym (append_assoc before taken.asks more.0) ∙ ap (λ (l : List (Key × Call)). l ++ more.0)
+          (sym taken.log_is),
       more.2,
       (λ none. filled (more.2 ∙ ap asks_field none)),
       subst (All IsAsk) (ap (λ (l : List (Key × Call)). drop (length taken.asks) l) more.1 ∙ drop_at taken.asks more.0 (length taken.asks) refl)
@@ -78,15 +63,15 @@ no_ask_follows body rest before log taken filled none batch some valid e is =
 
 -- nor one in which an ask follows that no log takes
 pub ask_refused : (body rest : List ℕ) (before log : List (Key × Call)) → Taken body rest before log → (ask : Key × Call) (size : ℕ)
-    → IsAsk ask → take size rest ≡ spelling (frame_of ask) → ((more : List (Key × Call)) → IsLog (log ++ ask ∷ more) → ⊥)
+    → IsAsk ask → take size rest ≡ spelling (ask_frame ask) → ((more : List (Key × Call)) → IsLog (log ++ ask ∷ more) → ⊥)
     → (batch : List (Key × Call)) → batch ≢ [] → All IsAsk batch → body ≡ asks_field batch → IsLog (before ++ batch) → ⊥
 ask_refused body rest before log taken ask size valid_ask front refuses batch some valid e is =
     let asks = taken.asks ++ ask ∷ [] in
-    let field = spelling (frame_of ask) in
+    let field = spelling (ask_frame ask) in
     let parted : asks_field batch ≡ asks_field asks ++ drop size rest =
     sym e ∙ taken.body_is ∙ ap (λ (l : List ℕ). asks_field taken.asks ++ l) (sym (take-append-drop size rest) ∙ ap (λ (l : List ℕ). l ++ drop size rest) front)
     ∙ sym (append_assoc (asks_field taken.asks) field (drop size rest))
-    ∙ ap (λ (l : List ℕ). l ++ drop size rest) (flat_map_more (λ (it : Key × Call). spelling (frame_of it)) [] taken.asks ask) in
+    ∙ ap (λ (l : List ℕ). l ++ drop size rest) (flat_map_more (λ (it : Key × Call). spelling (ask_frame it)) [] taken.asks ask) in
     let more = fields_begin asks batch (drop size rest) (All-push IsAsk taken.asks ask taken.valid valid_ask) valid parted in
     let all : before ++ batch ≡ log ++ ask ∷ more.0 =
     ap (λ (l : List (Key × Call)). before ++ l) (more.1 ∙ append_assoc taken.asks (ask ∷ []) more.0)

@@ -2,5 +2,5 @@ pub mod Asks
 pub mod Keeping
 pub mod LogFile
 pub mod Recovery
-pub mod Replaying
 pub mod Telling
+pub mod inner

@@ -6,12 +6,11 @@ use Rattle.sb_calls.specs.declared.ask.Key.{Key}
 use Rattle.sb_calls.specs.declared.call.Call.{Call}
 use Rattle.sb_sequencer.specs.Numbering.{IsLog}
 use Rattle.sha2.specs.Sha256.{sha256}
-use Rattle.sb_log.specs.Records.{records}
 use Rattle.sb_ask_log.specs.Asks.{IsAsk, asks_field}
 
 -- what stands before the opening text
-abbrev pub magic : List ℕ
-magic = codes "SBLOG001"
+abbrev pub log_magic : List ℕ
+log_magic = codes "SBLOG001"
 
 -- the text is an opening up to and with its line `begin` and the end of that line
 pub record IsOpeningText (text : List ℕ) : Type 0 where
@@ -29,15 +28,11 @@ pub record AreBatchesOf (batches : List (List (Key × Call))) (log : List (Key �
 
 -- the bodies of the records of an opening and batches
 abbrev pub bodies_of : List ℕ → List (List (Key × Call)) → List (List ℕ)
-bodies_of text batches = (magic ++ text) ∷ map asks_field batches
+bodies_of text batches = (log_magic ++ text) ∷ map asks_field batches
 
--- the file of an opening and batches
-abbrev pub file_of : List ℕ → List (List (Key × Call)) → List ℕ
-file_of text batches = records (bodies_of text batches)
-
--- all its bodies, joined, however the asks are parted into batches
+-- all its bodies, body_bytes, however the asks are parted into batches
 abbrev pub log_bytes : List ℕ → List (Key × Call) → List ℕ
-log_bytes text log = magic ++ text ++ asks_field log
+log_bytes text log = log_magic ++ text ++ asks_field log
 
 -- the digest of a log, which says which opening and which asks these are
 abbrev pub log_digest : List ℕ → List (Key × Call) → List ℕ

@@ -2,8 +2,8 @@
 use Rattle.std.specs.Prelude.{◌≡◌, ◌⊎◌, ℕ, List, [], ◌∷◌, ◌++◌, length}
 use Rattle.sb_calls.specs.declared.ask.Key.{Key}
 use Rattle.sb_calls.specs.declared.call.Call.{Call}
-use Rattle.sb_log.specs.Reading.{IsTorn, Reads}
-use Rattle.sb_log.specs.Records.{IsBody, joined, record_after, records}
+use Rattle.sb_log.specs.Reading.{IsTorn, ReadsRecords}
+use Rattle.sb_log.specs.Records.{IsBody, body_bytes, record_after, records}
 use Rattle.sb_log.specs.declared.log_fault.LogFault.{LogFault}
 use Rattle.sb_log.specs.declared.log_fault.LogFault.TheVariants.{Damaged, InUse}
 use Rattle.sb_ask_log.specs.LogFile.{AreBodiesOf}
@@ -17,7 +17,7 @@ AreRead (body ∷ bodies) text log = AreBodiesOf (body ∷ bodies) text log
 -- a whole first record there is no log, and the opening is empty
 pub record ReadsAskLog (content : List ℕ) (text : List ℕ) (log : List (Key × Call)) (rest : List ℕ) : Type 0 where
   pub bodies : List (List ℕ)
-  pub reads : Reads content bodies rest
+  pub reads : ReadsRecords content bodies rest
   pub torn : IsTorn rest
   pub are : AreRead bodies text log
 
@@ -32,8 +32,8 @@ pub record IsDamagedAskLog (content : List ℕ) (byte behind : ℕ) : Type 0 whe
   pub are : AreRead bodies text log
   pub byte_is : byte ≡ length (records bodies)
   pub behind_is : behind ≡ length rest
-  pub why : (Reads content bodies rest × (IsTorn rest → ⊥))
-      ⊎ ((body more : List ℕ) × IsBody body × (rest ≡ record_after (joined bodies) body ++ more)
+  pub why : (ReadsRecords content bodies rest × (IsTorn rest → ⊥))
+      ⊎ ((body more : List ℕ) × IsBody body × (rest ≡ record_after (body_bytes bodies) body ++ more)
       × ((longer_text : List ℕ) (longer : List (Key × Call)) → AreRead (bodies ++ body ∷ []) longer_text longer → ⊥))
 
 -- the log is damaged, or the device failed, or memory was refused

@@ -5,8 +5,9 @@ ghost use Rattle.sb_calls.specs.declared.ask.Key.{Key as AnyKey};
 ghost use Rattle.sb_calls.specs.declared.call.Call.{Call as AnyCall};
 ghost use Rattle.sb_sequencer.specs.Numbering.{IsLog};
 ghost use Rattle.sb_log.specs.Replaying.{IsReplayFault};
-ghost use Rattle.sb_ask_log.specs.Asks.{IsAsk, StartsWithAsk, asks_field};
-ghost use Rattle.sb_ask_log.specs.LogFile.{IsOpeningText, magic};
+ghost use Rattle.sb_ask_log.specs.Asks.{IsAsk, asks_field};
+ghost use Rattle.sb_ask_log.specs.inner.FirstAsk.{StartsWithAsk};
+ghost use Rattle.sb_ask_log.specs.LogFile.{IsOpeningText, log_magic};
 
 use crate::opening_text::is_opening_text;
 use sb_calls::{Call, Key};
@@ -29,7 +30,7 @@ pub(crate) struct AskReplay {
 }
 
 impl Model for AskReplay {
-    ghost use Rattle.sb_ask_log.specs.Replaying.{AskReplayOf};
+    ghost use Rattle.sb_ask_log.specs.inner.Replaying.{AskReplayOf};
 
     ghost Value = { AskReplayOf };
 
@@ -51,7 +52,7 @@ impl AskReplay {
 }
 
 impl Replay for AskReplay {
-    ghost use Rattle.sb_ask_log.specs.Replaying.{RefusesBody, TakesBody};
+    ghost use Rattle.sb_ask_log.specs.inner.Replaying.{RefusesBody, TakesBody};
 
     ghost Replays = { TakesBody };
 
@@ -70,8 +71,8 @@ impl Replay for AskReplay {
 fn take_opening(alloc: Global, body: &[u8], text: &mut Vec<u8>) -> Result<(), ReplayFault>
     requires { text.old.items ≡ [] }
     ensures { MatchResult result
-        (λ done. (body.now ≡ magic ++ text.new.items) × IsOpeningText text.new.items)
-        (IsReplayFault ((other : List _) → body.now ≡ magic ++ other → IsOpeningText other → ⊥)) }
+        (λ done. (body.now ≡ log_magic ++ text.new.items) × IsOpeningText text.new.items)
+        (IsReplayFault ((other : List _) → body.now ≡ log_magic ++ other → IsOpeningText other → ⊥)) }
 {
     let Some(opening) = body.strip_prefix(MAGIC) else {
         return Err(ReplayFault::Refused);

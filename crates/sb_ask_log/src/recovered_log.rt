@@ -23,7 +23,7 @@ pub struct RecoveredLog {
     pub end: LogEnd,
 }
 
-/// Reads the log of a file. The file stays as it is.
+/// ReadsRecords the log of a file. The file stays as it is.
 ///
 /// Memory is taken for the log, and for one batch at a time.
 ///
@@ -52,7 +52,7 @@ pub fn read_asks<F: LogFile>(alloc: Global, file: &mut F) -> Result<RecoveredLog
     Ok(RecoveredLog { text, log, end })
 }
 
-/// Reads the log of a file as [`read_asks`] does, cuts off what follows its records, and has these on
+/// ReadsRecords the log of a file as [`read_asks`] does, cuts off what follows its records, and has these on
 /// the disk.
 ///
 /// Fails as [`read_asks`] does, and with [`LogFault::Device`] if another call of the file fails. If it

@@ -13,9 +13,6 @@ pub record Counted (rest : List ℕ) (size : ℕ) (blank : Bool) : Type 0 where
   pub within : size ≤ length rest
   pub blank_is : IsTrue blank ↔ IsBlank (take size rest)
 
-pub none_counted : (rest : List ℕ) → Counted rest 0 true
-none_counted rest = record { within = omega arith; blank_is = ((λ yes. All-nil (λ (byte : ℕ). byte ≡ 0)), (λ yes. refl)) }
-
 take_on : (n m : ℕ) (rest : List ℕ) → n ≤ length rest → take (n + m) rest ≡ take n rest ++ take m (drop n rest)
 take_on n m rest within =
     ap (λ (l : List ℕ). take (n + m) l) (sym (take-append-drop n rest))
@@ -43,7 +40,8 @@ one_more rest piece size most blank both c read both_is =
         (λ yes. let parts = both_is.0 yes in
             subst IsBlank (sym all) (All-append (λ (byte : ℕ). byte ≡ 0) (take size rest) piece (c.blank_is.0 parts.0) parts.1)),
         (λ blank_all. both_is.1 (
-          c.blank_is.1 (subst IsBlank (take-append-le size (take size rest) piece (omega (arith, c.within, length-take size rest)) ∙ take_all size (take size rest) (omega (arith, length-take size rest)))
+          c.blank_is.1 (subst IsBlank (take-append-le size (take size rest) piece (omega (arith, c.within, length-take size rest)) ∙ take_all size
+              (take size rest) (omega (arith, length-take size rest)))
               (All-take (λ (byte : ℕ). byte ≡ 0) size (take size rest ++ piece) (subst IsBlank all blank_all))),
           subst IsBlank (drop_at (take size rest) piece size (omega (arith, c.within, length-take size rest)))
               (All-drop (λ (byte : ℕ). byte ≡ 0) size (take size rest ++ piece) (subst IsBlank all blank_all)),

@@ -7,7 +7,7 @@ use Rattle.std.proofs.lemmas.List.Elements.{All-drop, All-get_or, All-take}
 use Rattle.std.proofs.lemmas.Nat.{from_be_bytes-to_be_bytes_4}
 use Rattle.sha2.specs.Sha256.{sha256}
 use Rattle.sha2.proofs.Facts256.{length-sha256}
-use Rattle.sb_log.specs.Front.{HasNoRecord}
+use Rattle.sb_log.specs.inner.Front.{HasNoRecord}
 use Rattle.sb_log.specs.Reading.{Begins, IsTorn}
 use Rattle.sb_log.specs.Records.{IsBody, record_after, size_field}
 use Rattle.sb_log.proofs.Counts.{IsBlank}

@@ -5,8 +5,8 @@ use Rattle.std.proofs.Math.Seq.{take-append-add}
 use Rattle.std.proofs.lemmas.List.{append-nil, take_at, take-append-drop}
 use Rattle.std.proofs.lemmas.List.Elements.{All-head, All-nil, All-push, All-take}
 use Rattle.sb_log.specs.Lives.{Event, Append, AppendFails, Sync, SyncFails, Crash, Cut, ReadBack, Life, newborn, Happens, HappensAll, KeepsWhatItTold, TellsForGood}
-use Rattle.sb_log.specs.Reading.{Begins, IsTorn, Reads}
-use Rattle.sb_log.specs.Records.{IsBody, joined, record_after, records, records_after}
+use Rattle.sb_log.specs.Reading.{Begins, IsTorn, ReadsRecords}
+use Rattle.sb_log.specs.Records.{IsBody, body_bytes, record_after, records, records_after}
 use Rattle.sb_log.proofs.Readings.{read_begins, rest_is_torn, told_begins}
 use Rattle.sb_log.proofs.Records.{records_join, records_push}
 
@@ -48,9 +48,9 @@ cut_short told more k le =
     ap (λ n. take n (told ++ more)) (omega (arith, le)) ∙ take-append-add told more (k - length told)
 
 appended : (l : Life) (body : List ℕ) → Sound l → l.healthy ≡ true → IsBody body
-    → Sound (record l { content = l.content ++ record_after (joined l.given) body; given = l.given ++ body ∷ [] })
+    → Sound (record l { content = l.content ++ record_after (body_bytes l.given) body; given = l.given ++ body ∷ [] })
 appended l body s healthy fits =
-    let last = record_after (joined l.given) body in
+    let last = record_after (body_bytes l.given) body in
     let all : l.content ++ last ≡ records (l.given ++ body ∷ []) =
     ap (λ (c : List ℕ). c ++ last) (s.whole healthy) ∙ sym (records_push l.given body) in
     record {
@@ -64,9 +64,9 @@ appended l body s healthy fits =
     }
 
 torn : (l : Life) (body : List ℕ) (kept : ℕ) → Sound l → l.healthy ≡ true → IsBody body
-    → Sound (record l { content = l.content ++ take kept (record_after (joined l.given) body); given = l.given ++ body ∷ []; healthy = false })
+    → Sound (record l { content = l.content ++ take kept (record_after (body_bytes l.given) body); given = l.given ++ body ∷ []; healthy = false })
 torn l body kept s healthy fits =
-    let last = record_after (joined l.given) body in
+    let last = record_after (body_bytes l.given) body in
     let part = take kept last in
     record {
       fit = All-push IsBody l.given body s.fit fits;
@@ -137,52 +137,52 @@ fit_front told given b fit = subst (All IsBody) (take_at told b.0 (length told) 
     (All-take IsBody (length told) (told ++ b.0) (subst (All IsBody) b.1 fit))
 
 -- which bodies are behind those that are read, and that the rest begins their records
-read_of : (l : Life) (bodies : List (List ℕ)) (rest : List ℕ) (s : Sound l) → Reads l.content bodies rest
-    → (behind : List (List ℕ)) × (l.given ≡ bodies ++ behind) × (rest ++ s.missing ≡ records_after (joined bodies) behind) × All IsBody behind
+read_of : (l : Life) (bodies : List (List ℕ)) (rest : List ℕ) (s : Sound l) → ReadsRecords l.content bodies rest
+    → (behind : List (List ℕ)) × (l.given ≡ bodies ++ behind) × (rest ++ s.missing ≡ records_after (body_bytes bodies) behind) × All IsBody behind
 read_of l bodies rest s r =
     read_begins [] bodies l.given (rest ++ s.missing) r.fit s.fit
     (sym (append_assoc (records bodies) rest s.missing) ∙ ap (λ (c : List ℕ). c ++ s.missing) (sym r.whole) ∙ s.part)
 
-told_read : (l : Life) (bodies : List (List ℕ)) (rest : List ℕ) → Sound l → Reads l.content bodies rest → Begins l.told bodies
+told_read : (l : Life) (bodies : List (List ℕ)) (rest : List ℕ) → Sound l → ReadsRecords l.content bodies rest → Begins l.told bodies
 told_read l bodies rest s r =
     told_begins [] l.told bodies rest s.there.0 (fit_front l.told l.given s.told s.fit) r.fit r.longest (sym s.there.1 ∙ r.whole)
 
 -- what is read of a sound log
-keeps : (l : Life) (bodies : List (List ℕ)) (rest : List ℕ) → Sound l → Reads l.content bodies rest
+keeps : (l : Life) (bodies : List (List ℕ)) (rest : List ℕ) → Sound l → ReadsRecords l.content bodies rest
     → Begins l.told bodies × Begins bodies l.given × IsTorn rest
 keeps l bodies rest s r =
     let read = read_of l bodies rest s r in (
       told_read l bodies rest s r,
       (read.0, read.1),
-      rest_is_torn (joined bodies) rest s.missing read.0 read.3 r.longest read.2,
+      rest_is_torn (body_bytes bodies) rest s.missing read.0 read.3 r.longest read.2,
     )
 
 -- all that is given is read, if nothing is missing
 all_read : (bodies behind : List (List ℕ)) (rest : List ℕ) → All IsBody behind
-    → ((body more : List ℕ) → IsBody body → rest ≡ record_after (joined bodies) body ++ more → ⊥)
-    → rest ≡ records_after (joined bodies) behind → behind ≡ []
+    → ((body more : List ℕ) → IsBody body → rest ≡ record_after (body_bytes bodies) body ++ more → ⊥)
+    → rest ≡ records_after (body_bytes bodies) behind → behind ≡ []
 all_read bodies [] rest fit longest e = refl
 all_read bodies (b ∷ behind) rest fit longest e =
-    absurd (longest b (records_after (joined bodies ++ b) behind) (All-head IsBody b behind fit) e)
+    absurd (longest b (records_after (body_bytes bodies ++ b) behind) (All-head IsBody b behind fit) e)
 
-whole_read : (l : Life) (bodies : List (List ℕ)) (rest : List ℕ) → Sound l → Reads l.content bodies rest → l.content ≡ records l.given → l.given ≡ bodies
+whole_read : (l : Life) (bodies : List (List ℕ)) (rest : List ℕ) → Sound l → ReadsRecords l.content bodies rest → l.content ≡ records l.given → l.given ≡ bodies
 whole_read l bodies rest s r whole =
     let read = read_begins [] bodies l.given rest r.fit s.fit (sym r.whole ∙ whole) in
     read.1 ∙ ap (λ (b : List (List ℕ)). bodies ++ b) (all_read bodies read.0 rest read.3 r.longest read.2) ∙ append-nil bodies
 
-cut_off : (l : Life) (bodies : List (List ℕ)) (rest : List ℕ) → Sound l → Reads l.content bodies rest
+cut_off : (l : Life) (bodies : List (List ℕ)) (rest : List ℕ) → Sound l → ReadsRecords l.content bodies rest
     → Sound (record l { content = records bodies; synced = min (length (records bodies)) l.synced })
 cut_off l bodies rest s r =
     let begins = told_read l bodies rest s r in
-    let there : records bodies ≡ records l.told ++ records_after (joined l.told) begins.0 =
+    let there : records bodies ≡ records l.told ++ records_after (body_bytes l.told) begins.0 =
     ap records begins.1 ∙ records_join [] l.told begins.0 in
     record {
       fit = s.fit;
       missing = rest ++ s.missing;
       part = sym (append_assoc (records bodies) rest s.missing) ∙ ap (λ (c : List ℕ). c ++ s.missing) (sym r.whole) ∙ s.part;
       told = s.told;
-      there = (records_after (joined l.told) begins.0, there);
-      synced = omega (arith, s.synced, ap length there, length-append (records l.told) (records_after (joined l.told) begins.0));
+      there = (records_after (body_bytes l.told) begins.0, there);
+      synced = omega (arith, s.synced, ap length there, length-append (records l.told) (records_after (body_bytes l.told) begins.0));
       whole = λ healthy. ap records (sym (whole_read l bodies rest s r (s.whole healthy)));
     }
 

@@ -5,7 +5,7 @@ use Rattle.std.proofs.lemmas.Bool.{cases_lt}
 use Rattle.std.proofs.lemmas.List.{append-nil, nil_from_length, take-append-drop, take-append-le, take_at}
 use Rattle.std.proofs.lemmas.List.Elements.{All-head, All-tail}
 use Rattle.sb_log.specs.Reading.{Begins, IsTorn}
-use Rattle.sb_log.specs.Records.{IsBody, joined, record_after, records_after, size_field}
+use Rattle.sb_log.specs.Records.{IsBody, body_bytes, record_after, records_after, size_field}
 use Rattle.sb_log.proofs.Records.{first_eight, length-record, one_record}
 
 -- no whole record stands at the front of these bytes
@@ -19,7 +19,7 @@ no_shorter before a x y e =
 -- what is read is a beginning of what was given, and the rest with what is missing are the records behind
 pub read_begins : (before : List ℕ) (read given : List (List ℕ)) (more : List ℕ) → All IsBody read → All IsBody given
     → records_after before read ++ more ≡ records_after before given
-    → (behind : List (List ℕ)) × (given ≡ read ++ behind) × (more ≡ records_after (before ++ joined read) behind) × All IsBody behind
+    → (behind : List (List ℕ)) × (given ≡ read ++ behind) × (more ≡ records_after (before ++ body_bytes read) behind) × All IsBody behind
 read_begins before [] given more fit_read fit_given e =
     (given, refl, e ∙ ap (λ (l : List ℕ). records_after l given) (sym (append-nil before)), fit_given)
 read_begins before (a ∷ read) [] more fit_read fit_given e =
@@ -34,13 +34,13 @@ read_begins before (a ∷ read) (b ∷ given) more fit_read fit_given e =
     (same.1 ∙ ap (λ (l : List ℕ). records_after (before ++ l) given) (sym same.0)) in (
       begins.0,
       ap (λ (c : List ℕ). c ∷ given) (sym same.0) ∙ ap (λ (l : List (List ℕ)). a ∷ l) begins.1,
-      begins.2 ∙ ap (λ (l : List ℕ). records_after l begins.0) (append_assoc before a (joined read)),
+      begins.2 ∙ ap (λ (l : List ℕ). records_after l begins.0) (append_assoc before a (body_bytes read)),
       begins.3,
     )
 
 -- what was told is a beginning of what is read
 pub told_begins : (before : List ℕ) (told read : List (List ℕ)) (rest more : List ℕ) → All IsBody told → All IsBody read
-    → NoRecord (before ++ joined read) rest → records_after before told ++ more ≡ records_after before read ++ rest → Begins told read
+    → NoRecord (before ++ body_bytes read) rest → records_after before told ++ more ≡ records_after before read ++ rest → Begins told read
 told_begins before [] read rest more fit_told fit_read none e = (read, refl)
 told_begins before (a ∷ told) [] rest more fit_told fit_read none e =
     absurd (none a (records_after (before ++ a) told ++ more) (All-head IsBody a told fit_told)
@@ -54,7 +54,8 @@ told_begins before (a ∷ told) (b ∷ read) rest more fit_told fit_read none e 
     ∙ append_assoc (record_after before b) (records_after (before ++ b) read) rest in
     let same = one_record before a b (records_after (before ++ a) told ++ more) (records_after (before ++ b) read ++ rest) fits_a fits_b tied in
     let begins = told_begins (before ++ a) told read rest more (All-tail IsBody a told fit_told) (All-tail IsBody b read fit_read)
-    (subst (λ (l : List ℕ). NoRecord l rest) (sym (append_assoc before b (joined read)) ∙ ap (λ (l : List ℕ). (before ++ l) ++ joined read) (sym same.0)) none)
+    (subst (λ (l : List ℕ). NoRecord l rest) (sym (append_assoc before b (body_bytes read)) ∙ ap (λ (l : List ℕ). (before ++ l) ++ body_bytes read)
+    (sym same.0)) none)
     (same.1 ∙ ap (λ (l : List ℕ). records_after (before ++ l) read ++ rest) (sym same.0)) in
     (begins.0, ap (λ (c : List ℕ). c ∷ read) (sym same.0) ∙ ap (λ (l : List (List ℕ)). a ∷ l) begins.1)
 

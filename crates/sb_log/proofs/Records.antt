@@ -10,7 +10,7 @@ use Rattle.sha2.specs.declared.Sha256.{Sha256}
 use Rattle.std.proofs.lemmas.Nat.{from_be_bytes-to_be_bytes_4}
 use Rattle.sha2.specs.Sha256.{sha256}
 use Rattle.sha2.proofs.Facts256.{length-sha256}
-use Rattle.sb_log.specs.Records.{IsBody, head, joined, record_after, records, records_after, size_field}
+use Rattle.sb_log.specs.Records.{IsBody, head, body_bytes, record_after, records, records_after, size_field}
 
 pub length-size_field : (size : ℕ) → length (size_field size) ≡ 8
 unfolding size_field
@@ -68,22 +68,23 @@ one_record before a b x y fits_a fits_b e =
     (same, append_cancel_left (record_after before a) x y (e ∙ ap (λ (l : List ℕ). record_after before l ++ y) (sym same)))
 
 -- bodies behind others
-pub joined_more : (xs ys : List (List ℕ)) → joined (xs ++ ys) ≡ joined xs ++ joined ys
+pub joined_more : (xs ys : List (List ℕ)) → body_bytes (xs ++ ys) ≡ body_bytes xs ++ body_bytes ys
 joined_more xs ys = flat_map-append (λ (b : List ℕ). b) xs ys
 
-pub records_join : (before : List ℕ) (xs ys : List (List ℕ)) → records_after before (xs ++ ys) ≡ records_after before xs ++ records_after (before ++ joined xs) ys
+pub records_join : (before : List ℕ) (xs ys : List (List ℕ)) → records_after before (xs ++ ys) ≡ records_after before xs ++ records_after
+    (before ++ body_bytes xs) ys
 records_join before [] ys = ap (λ (l : List ℕ). records_after l ys) (sym (append-nil before))
 records_join before (x ∷ xs) ys =
     ap (λ (l : List ℕ). record_after before x ++ l) (records_join (before ++ x) xs ys)
-    ∙ ap (λ (l : List ℕ). record_after before x ++ (records_after (before ++ x) xs ++ records_after l ys)) (append_assoc before x (joined xs))
-    ∙ sym (append_assoc (record_after before x) (records_after (before ++ x) xs) (records_after (before ++ joined (x ∷ xs)) ys))
+    ∙ ap (λ (l : List ℕ). record_after before x ++ (records_after (before ++ x) xs ++ records_after l ys)) (append_assoc before x (body_bytes xs))
+    ∙ sym (append_assoc (record_after before x) (records_after (before ++ x) xs) (records_after (before ++ body_bytes (x ∷ xs)) ys))
 
-pub joined_push : (bodies : List (List ℕ)) (body : List ℕ) → joined (bodies ++ body ∷ []) ≡ joined bodies ++ body
-joined_push bodies body = joined_more bodies (body ∷ []) ∙ ap (λ (l : List ℕ). joined bodies ++ l) (append-nil body)
+pub joined_push : (bodies : List (List ℕ)) (body : List ℕ) → body_bytes (bodies ++ body ∷ []) ≡ body_bytes bodies ++ body
+joined_push bodies body = joined_more bodies (body ∷ []) ∙ ap (λ (l : List ℕ). body_bytes bodies ++ l) (append-nil body)
 
-pub records_push : (bodies : List (List ℕ)) (body : List ℕ) → records (bodies ++ body ∷ []) ≡ records bodies ++ record_after (joined bodies) body
+pub records_push : (bodies : List (List ℕ)) (body : List ℕ) → records (bodies ++ body ∷ []) ≡ records bodies ++ record_after (body_bytes bodies) body
 records_push bodies body =
-    records_join [] bodies (body ∷ []) ∙ ap (λ (l : List ℕ). records bodies ++ l) (append-nil (record_after (joined bodies) body))
+    records_join [] bodies (body ∷ []) ∙ ap (λ (l : List ℕ). records bodies ++ l) (append-nil (record_after (body_bytes bodies) body))
 
 -- a hasher that holds what stands behind a head
 pub longer_holds : (buffer : List ℕ) (hasher : Sha256) (before : List ℕ) → Holds256 hasher (before ++ take (length buffer - 40) (drop 40 buffer))

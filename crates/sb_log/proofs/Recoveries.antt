@@ -3,8 +3,8 @@ use Rattle.std.proofs.Common.{◌≡◌, ◌⊎◌, ℕ, List, length, min, take
 use Rattle.std.proofs.lemmas.List.{take_at}
 use Rattle.sb_log.specs.Lives.{Cut, Happens, Life}
 use Rattle.sb_log.specs.LogCalls.{IsFileOf, Recovers}
-use Rattle.sb_log.specs.LogFiles.{IsCut}
-use Rattle.sb_log.specs.Reading.{Reads}
+use Rattle.sb_log.specs.LogFiles.{IsCutTo}
+use Rattle.sb_log.specs.Reading.{ReadsRecords}
 use Rattle.sb_log.specs.Records.{records}
 use Rattle.sb_log.specs.declared.log_fault.LogFault.{LogFault}
 use Rattle.sb_log.specs.declared.log_fault.LogFault.TheVariants.{Damaged, Device, InUse, OutOfMemory}
@@ -14,8 +14,8 @@ abbrev pub cut_life : Life → List (List ℕ) → Life
 cut_life l bodies = record l { content = records bodies; synced = min (length (records bodies)) l.synced }
 
 pub is_cut : (l : Life) (content now new : List ℕ) (synced synced_now synced_new size : ℕ) (bodies : List (List ℕ)) (rest : List ℕ)
-    → IsFileOf content synced l → now ≡ content → synced_now ≡ synced → Reads content bodies rest → size ≡ length (records bodies)
-    → IsCut size now synced_now new synced_new → IsFileOf new synced_new (cut_life l bodies)
+    → IsFileOf content synced l → now ≡ content → synced_now ≡ synced → ReadsRecords content bodies rest → size ≡ length (records bodies)
+    → IsCutTo size now synced_now new synced_new → IsFileOf new synced_new (cut_life l bodies)
 is_cut l content now new synced synced_now synced_new size bodies rest life same synced_same reads sized cut = record {
   content_is = sym (cut.0 ∙ ap (λ (c : List ℕ). take size c) (same ∙ reads.whole) ∙ take_at (records bodies) rest size (sym sized));
   synced_is = ap (λ (n : ℕ). min n l.synced) (sym sized) ∙ ap (λ (n : ℕ). min size n) (life.synced_is ∙ sym synced_same) ∙ sym cut.1;

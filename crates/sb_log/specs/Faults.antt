@@ -1,7 +1,5 @@
 -- What a log's fault means.
 use Rattle.std.specs.Prelude.{ℕ}
-use Rattle.sb_text.specs.declared.input.ReadFault.{ReadFault}
-use Rattle.sb_text.specs.declared.input.ReadFault.TheVariants as reading
 use Rattle.sb_log.specs.declared.log_fault.LogFault.{LogFault}
 use Rattle.sb_log.specs.declared.log_fault.LogFault.TheVariants.{Device, Damaged, OutOfMemory, InUse}
 
@@ -11,8 +9,3 @@ log_fault_number Device = 1
 log_fault_number (Damaged byte behind) = 2
 log_fault_number OutOfMemory = 3
 log_fault_number InUse = 4
-
--- a log's fault if its file can't be read
-abbrev pub log_fault_of : ReadFault → LogFault
-log_fault_of reading.Device = Device
-log_fault_of reading.OutOfMemory = OutOfMemory

@@ -1,6 +1,5 @@
 pub mod FaultyFile
 pub mod Faults
-pub mod Front
 pub mod Lives
 pub mod LogCalls
 pub mod LogFiles
@@ -8,3 +7,4 @@ pub mod MemoryFile
 pub mod Reading
 pub mod Records
 pub mod Replaying
+pub mod inner

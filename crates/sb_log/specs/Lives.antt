@@ -1,8 +1,8 @@
 -- The life of a log file: what is appended and synced, what fails, what a crash leaves, and what is
 -- read back.
 use Rattle.std.specs.Prelude.{◌≡◌, ℕ, max, min, Bool, true, false, List, [], ◌∷◌, ◌++◌, length, take}
-use Rattle.sb_log.specs.Reading.{Begins, IsTorn, Reads}
-use Rattle.sb_log.specs.Records.{IsBody, joined, record_after, records}
+use Rattle.sb_log.specs.Reading.{Begins, IsTorn, ReadsRecords}
+use Rattle.sb_log.specs.Records.{IsBody, body_bytes, record_after, records}
 
 -- a file's bytes; how many of them are synced; the bodies that were given to it, and those that were
 -- told, in order; and whether it is healthy, so that it takes appends and syncs
@@ -34,11 +34,11 @@ pub data Event : Type 0 where
 abbrev pub Happens : Life → Event → Life → Type 0
 -- the record goes last
 Happens l (Append body) m = (l.healthy ≡ true) × IsBody body
-    × (m ≡ record l { content = l.content ++ record_after (joined l.given) body; given = l.given ++ body ∷ [] })
+    × (m ≡ record l { content = l.content ++ record_after (body_bytes l.given) body; given = l.given ++ body ∷ [] })
 -- a beginning of the record goes last
 Happens l (AppendFails body kept) m = (l.healthy ≡ true) × IsBody body
     × (m ≡ record l {
-      content = l.content ++ take kept (record_after (joined l.given) body);
+      content = l.content ++ take kept (record_after (body_bytes l.given) body);
       given = l.given ++ body ∷ [];
       healthy = false;
     })
@@ -47,10 +47,17 @@ Happens l Sync m = (l.healthy ≡ true) × (m ≡ record l { synced = length l.c
 -- nobody knows how much is synced
 Happens l SyncFails m = (l.healthy ≡ true) × (m ≡ record l { healthy = false })
 Happens l (Crash kept) m = m ≡ record l { content = take (max l.synced kept) l.content; healthy = false }
-Happens l (Cut bodies rest) m = Reads l.content bodies rest × IsTorn rest
+Happens l (Cut bodies rest) m = ReadsRecords l.content bodies rest × IsTorn rest
     × (m ≡ record l { content = records bodies; synced = min (length (records bodies)) l.synced })
-Happens l (ReadBack bodies rest) m = Reads l.content bodies rest × IsTorn rest
-    × (m ≡ record { content = records bodies; synced = length (records bodies); given = bodies; told = bodies; healthy = true })
+Happens l (ReadBack bodies rest) m = ReadsRecords l.content bodies rest × IsTorn rest
+    × (m ≡ record {
+      content = records bodies;
+      synced = length
+          (records bodies);
+      given = bodies;
+      told = bodies;
+      healthy = true;
+    })
 
 -- these events, one after another
 abbrev pub HappensAll : Life → List Event → Life → Type 0
@@ -61,7 +68,7 @@ HappensAll l (event ∷ events) m = (mid : Life) × Happens l event mid × Happe
 -- beginning of those that were given, in order; and the rest is torn
 abbrev pub KeepsWhatItTold : Type 0
 KeepsWhatItTold = (events : List Event) (l : Life) (bodies : List (List ℕ)) (rest : List ℕ)
-    → HappensAll newborn events l → Reads l.content bodies rest
+    → HappensAll newborn events l → ReadsRecords l.content bodies rest
     → Begins l.told bodies × Begins bodies l.given × IsTorn rest
 
 -- what was told once is told ever after

@@ -3,8 +3,8 @@ use Rattle.std.specs.Prelude.{◌≡◌, ◌⊎◌, ℕ, Bool, false, not, Resul
 use Rattle.sha2.specs.declared.Sha256.{Sha256}
 use Rattle.sha2.specs.Hashers.{Holds256}
 use Rattle.sb_log.specs.Lives.{Append, AppendFails, Cut, Happens, Life, ReadBack, Sync, SyncFails}
-use Rattle.sb_log.specs.Reading.{IsTorn, Reads}
-use Rattle.sb_log.specs.Records.{IsBody, joined, record_after, records}
+use Rattle.sb_log.specs.Reading.{IsTorn, ReadsRecords}
+use Rattle.sb_log.specs.Records.{IsBody, body_bytes, record_after, records}
 use Rattle.sb_log.specs.Replaying.{ReplaysAll}
 use Rattle.sb_log.specs.declared.log_end.LogEnd.{LogEnd}
 use Rattle.sb_log.specs.declared.log_fault.LogFault.{LogFault}
@@ -25,31 +25,31 @@ pub record IsFileOf (content : List ℕ) (synced : ℕ) (l : Life) : Type 0 wher
 pub record IsLogOf (content : List ℕ) (synced : ℕ) (failed : Bool) (hasher : Sha256) (l : Life) : Type 0 where
   pub file : IsFileOf content synced l
   pub healthy_is : l.healthy ≡ not failed
-  pub holds : failed ≡ false → Holds256 hasher (joined l.given)
+  pub holds : failed ≡ false → Holds256 hasher (body_bytes l.given)
 
 -- what an append of a body does, by its answer
-abbrev pub Appends : Life → List ℕ → Result (Unit {0}) LogFault → Life → Type 0
-Appends l body (Ok done) m = Happens l (Append body) m
+abbrev pub DoesAppend : Life → List ℕ → Result (Unit {0}) LogFault → Life → Type 0
+DoesAppend l body (Ok done) m = Happens l (Append body) m
 -- the device failed now, or a call failed before
-Appends l body (Err Device) m = ((kept : ℕ) × Happens l (AppendFails body kept) m) ⊎ ((l.healthy ≡ false) × (m ≡ l))
-Appends l body (Err other) m = ⊥
+DoesAppend l body (Err Device) m = ((kept : ℕ) × Happens l (AppendFails body kept) m) ⊎ ((l.healthy ≡ false) × (m ≡ l))
+DoesAppend l body (Err other) m = ⊥
 
 -- what a sync does, by its answer
-abbrev pub Syncs : Life → Result (Unit {0}) LogFault → Life → Type 0
-Syncs l (Ok done) m = Happens l Sync m
-Syncs l (Err Device) m = Happens l SyncFails m ⊎ ((l.healthy ≡ false) × (m ≡ l))
-Syncs l (Err other) m = ⊥
+abbrev pub DoesSync : Life → Result (Unit {0}) LogFault → Life → Type 0
+DoesSync l (Ok done) m = Happens l Sync m
+DoesSync l (Err Device) m = Happens l SyncFails m ⊎ ((l.healthy ≡ false) × (m ≡ l))
+DoesSync l (Err other) m = ⊥
 
 module _ {T : Type 0} (replays : T → List ℕ → T → Type 0) (refuses : T → List ℕ → Type 0) where
   -- these records were replayed, and this rest, which is torn, ends the log
   pub record ReadsTo (content : List ℕ) (old : T) (bodies : List (List ℕ)) (rest : List ℕ) (end : LogEnd) (new : T)
       : Type 0 where
-    pub reads : Reads content bodies rest
+    pub reads : ReadsRecords content bodies rest
     pub torn : IsTorn rest
     pub replayed : ReplaysAll replays old bodies new
     pub records_is : end.records ≡ length (records bodies)
     pub torn_is : end.torn ≡ length rest
-    pub holds : Holds256 end.hasher (joined bodies)
+    pub holds : Holds256 end.hasher (body_bytes bodies)
 
   -- behind these records, which were replayed, stands something else: a rest that isn't torn, or the
   -- record of a body that is refused
@@ -61,12 +61,14 @@ module _ {T : Type 0} (replays : T → List ℕ → T → Type 0) (refuses : T �
     pub behind_is : behind ≡ length rest
     pub mid : T
     pub replayed : ReplaysAll replays old bodies mid
-    pub why : (Reads content bodies rest × (IsTorn rest → ⊥))
-        ⊎ ((body more : List ℕ) × IsBody body × (rest ≡ record_after (joined bodies) body ++ more) × refuses mid body)
+    pub why : (ReadsRecords content bodies rest × (IsTorn rest → ⊥))
+        ⊎ ((body more : List ℕ) × IsBody body × (rest ≡ record_after (body_bytes bodies) body ++ more)
+        × refuses mid body)
 
   -- what reading a log answers
   abbrev pub ReadsLog : List ℕ → T → Result LogEnd LogFault → T → Type 0
-  ReadsLog content old (Ok end) new = (bodies : List (List ℕ)) × (rest : List ℕ) × ReadsTo content old bodies rest end new
+  ReadsLog content old (Ok end) new = (bodies : List (List ℕ)) × (rest : List ℕ)
+      × ReadsTo content old bodies rest end new
   ReadsLog content old (Err (Damaged byte behind)) new = IsDamagedAt content old byte behind
   ReadsLog content old (Err Device) new = Unit {0}
   ReadsLog content old (Err OutOfMemory) new = Unit {0}
@@ -81,10 +83,3 @@ module _ {T : Type 0} (replays : T → List ℕ → T → Type 0) (refuses : T �
   -- what follows the records may have been cut off
   Recovers l old (Err other) new m = (m ≡ l)
       ⊎ ((bodies : List (List ℕ)) × (rest : List ℕ) × Happens l (Cut bodies rest) m)
-
--- a body is refused, whose record stands at this place of an honest file, or no more is known
-abbrev pub IsRefusalAt : Type 0 → List ℕ → ℕ → Type 0 → LogFault → Type 0
-IsRefusalAt Honest content at Refusal (Damaged byte behind) =
-    Refusal × (byte ≡ at) × (Honest → behind ≡ length (drop at content))
-IsRefusalAt Honest content at Refusal InUse = ⊥
-IsRefusalAt Honest content at Refusal other = Unit {0}

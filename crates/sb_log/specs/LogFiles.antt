@@ -5,8 +5,8 @@ use Rattle.sb_text.specs.declared.input.TheConstants.{READS}
 use Rattle.sb_text.specs.declared.input.ReadFault.TheVariants.{Device, OutOfMemory}
 
 -- it is cut to a size
-abbrev pub IsCut : ℕ → List ℕ → ℕ → List ℕ → ℕ → Type 0
-IsCut size old synced new synced_new = (new ≡ take size old) × (synced_new ≡ min size synced)
+abbrev pub IsCutTo : ℕ → List ℕ → ℕ → List ℕ → ℕ → Type 0
+IsCutTo size old synced new synced_new = (new ≡ take size old) × (synced_new ≡ min size synced)
 
 -- these bytes stand in the content at this place
 abbrev pub StandAt : ℕ → List ℕ → List ℕ → Type 0

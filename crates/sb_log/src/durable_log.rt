@@ -3,7 +3,7 @@ ghost use Rattle.std.specs.Prelude.{◌≡◌, ◌⊎◌, ◌↔◌, ◌≤◌, 
 ghost use Rattle.sha2.specs.Hashers.{Holds256};
 ghost use Rattle.sha2.specs.Sha256.{sha256};
 ghost use Rattle.sb_log.specs.Lives.{Life};
-ghost use Rattle.sb_log.specs.LogCalls.{Appends, IsLogOf, Syncs};
+ghost use Rattle.sb_log.specs.LogCalls.{DoesAppend, IsLogOf, DoesSync};
 ghost use Rattle.sb_log.specs.Records.{IsBody};
 ghost use Rattle.sb_log.specs.declared.log_fault.LogFault.TheVariants.{Device};
 
@@ -62,21 +62,21 @@ impl<F: LogFile> DurableLog<F> {
         file
     }
 
-    /// The hasher of all bodies, joined.
+    /// The hasher of all bodies, body_bytes.
     pub fn hasher(&self) -> &Sha256
         ensures { result.now ≡ self.now.hasher }
     {
         &self.hasher
     }
 
-    /// The digest of all bodies, joined.
+    /// The digest of all bodies, body_bytes.
     pub fn digest(&self) -> [u8; 32]
         ensures { (bodies : List ℕ) → Holds256 self.now.hasher bodies → result ≡ sha256 bodies }
     {
         digest_of(&self.hasher)
     }
 
-    /// Appends a record. The buffer has room for its head, and then its body; the head is written
+    /// DoesAppend a record. The buffer has room for its head, and then its body; the head is written
     /// here. Until a sync the record may be lost.
     ///
     /// Fails with [`LogFault::Device`] if the device fails, or failed before: then the file has to be
@@ -87,7 +87,7 @@ impl<F: LogFile> DurableLog<F> {
         ensures honest { F.IsHonest self.old.file ↔ F.IsHonest self.new.file }
         ensures life { F.IsHonest self.old.file → (l : Life)
             → IsLogOf (F.content self.old.file) (F.synced self.old.file) self.old.failed self.old.hasher l
-            → (m : Life) × Appends l (drop HEAD buffer.old) result m
+            → (m : Life) × DoesAppend l (drop HEAD buffer.old) result m
             × IsLogOf (F.content self.new.file) (F.synced self.new.file) self.new.failed self.new.hasher m }
         ensures body { drop HEAD buffer.new ≡ drop HEAD buffer.old }
         ensures hasher { OnOk result ((bodies : List ℕ) → Holds256 self.old.hasher bodies
@@ -122,7 +122,7 @@ impl<F: LogFile> DurableLog<F> {
         ensures honest { F.IsHonest self.old.file ↔ F.IsHonest self.new.file }
         ensures life { F.IsHonest self.old.file → (l : Life)
             → IsLogOf (F.content self.old.file) (F.synced self.old.file) self.old.failed self.old.hasher l
-            → (m : Life) × Syncs l result m
+            → (m : Life) × DoesSync l result m
             × IsLogOf (F.content self.new.file) (F.synced self.new.file) self.new.failed self.new.hasher m }
         ensures hasher { self.new.hasher ≡ self.old.hasher }
         ensures ok { OnOk result ((self.old.failed ≡ false) × (self.new.failed ≡ false)) }

@@ -10,7 +10,7 @@ use std::marker::Model;
 
 /// A file in memory whose device fails at one call. Every other call acts on the file in memory.
 ///
-/// Reads, appends, syncs, cuts and repeated writes are counted together.
+/// ReadsRecords, appends, syncs, cuts and repeated writes are counted together.
 #[derive(Drop)]
 pub struct FaultyFile {
     inner: MemoryFile,

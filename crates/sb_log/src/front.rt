@@ -2,7 +2,7 @@
 ghost use Rattle.std.specs.Prelude.{◌≡◌, ◌⊎◌, ◌+◌, ◌<◌, ◌≤◌, ◌^◌, ◌↔◌, ℕ, List, drop, length, IfOk, IsErrOf, IsTrue, IfErr};
 ghost use Rattle.std.specs.List.{All};
 ghost use Rattle.sha2.specs.Hashers.{Holds256};
-ghost use Rattle.sb_log.specs.Front.{HashesFront, IsFront};
+ghost use Rattle.sb_log.specs.inner.Front.{HashesFront, IsFront};
 ghost use Rattle.sb_log.specs.LogFiles.{HasFailed};
 ghost use Rattle.sb_log.specs.declared.front.Front.TheVariants.{Record};
 ghost use Rattle.sb_log.specs.declared.log_fault.LogFault.TheVariants.{Device, OutOfMemory};
@@ -27,7 +27,7 @@ pub(crate) enum Front {
     Damaged(usize),
 }
 
-/// Reads what stands at a place, where the record of the next body belongs. A whole record is in the
+/// ReadsRecords what stands at a place, where the record of the next body belongs. A whole record is in the
 /// buffer then, and the hasher holds its body too.
 ///
 /// Fails with [`LogFault::Device`] and [`LogFault::OutOfMemory`]. The file stays as it is.

@@ -1,6 +1,7 @@
 //! Why a log failed.
 ghost use Rattle.std.specs.Prelude.{◌≡◌};
-ghost use Rattle.sb_log.specs.Faults.{log_fault_number, log_fault_of};
+ghost use Rattle.sb_log.specs.Faults.{log_fault_number};
+ghost use Rattle.sb_log.specs.inner.FaultConversions.{log_fault_of};
 ghost use Rattle.sb_log.specs.declared.log_fault.LogFault.TheVariants.{OutOfMemory};
 
 use sb_text::ReadFault;

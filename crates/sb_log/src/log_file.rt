@@ -1,6 +1,6 @@
 //! A file that grows at its end.
 ghost use Rattle.std.specs.Prelude.{◌≡◌, ◌⊎◌, ◌↔◌, ◌++◌, ◌||◌, ℕ, Bool, List, length, drop, take, is_err, OnOk, OnErr};
-ghost use Rattle.sb_log.specs.LogFiles.{AppendsUpTo, IsCut, StandAt, failed_after_read};
+ghost use Rattle.sb_log.specs.LogFiles.{AppendsUpTo, IsCutTo, StandAt, failed_after_read};
 
 use sb_text::ReadFault;
 use std::io;
@@ -23,7 +23,7 @@ pub trait LogFile: Drop {
     /// Whether its device has failed.
     ghost has_failed: { Self → Bool };
 
-    /// Appends to a buffer the bytes from a place on: so many, or fewer at the file's end. The file
+    /// DoesAppend to a buffer the bytes from a place on: so many, or fewer at the file's end. The file
     /// stays as it is.
     fn read_at(&mut self, at: usize, most: usize, out: &mut Vec<u8>) -> Result<(), ReadFault>
         ensures honest { IsHonest self.old ↔ IsHonest self.new }
@@ -34,7 +34,7 @@ pub trait LogFile: Drop {
         ensures most { OnOk result (AppendsUpTo most out.old.items out.new.items) }
         ensures failed { has_failed self.new ≡ failed_after_read (has_failed self.old) result };
 
-    /// Appends these bytes. After a failure a beginning of them may be there.
+    /// DoesAppend these bytes. After a failure a beginning of them may be there.
     fn append(&mut self, bytes: &[u8]) -> io::Result<()>
         ensures honest { IsHonest self.old ↔ IsHonest self.new }
         ensures synced { IsHonest self.old → synced self.new ≡ synced self.old }
@@ -54,9 +54,9 @@ pub trait LogFile: Drop {
     /// Cuts it to so many bytes. After a failure this may have happened or not.
     fn cut(&mut self, size: usize) -> io::Result<()>
         ensures honest { IsHonest self.old ↔ IsHonest self.new }
-        ensures cut { IsHonest self.old → OnOk result (IsCut size (content self.old) (synced self.old)
+        ensures cut { IsHonest self.old → OnOk result (IsCutTo size (content self.old) (synced self.old)
             (content self.new) (synced self.new)) }
-        ensures err { IsHonest self.old → OnErr result (IsCut size (content self.old) (synced self.old)
+        ensures err { IsHonest self.old → OnErr result (IsCutTo size (content self.old) (synced self.old)
             (content self.new) (synced self.new)
             ⊎ ((content self.new ≡ content self.old) × (synced self.new ≡ synced self.old))) }
         ensures failed { has_failed self.new ≡ (has_failed self.old || is_err result) };

@@ -1,6 +1,7 @@
 //! Reading a log.
 ghost use Rattle.std.specs.Prelude.{◌≡◌, ◌<◌, ◌≤◌, ◌^◌, ◌↔◌, drop, length, IfErr, IfOk, IsErrOf, OnOk};
-ghost use Rattle.sb_log.specs.LogCalls.{IsRefusalAt, ReadsLog};
+ghost use Rattle.sb_log.specs.LogCalls.{ReadsLog};
+ghost use Rattle.sb_log.specs.inner.Refusals.{IsRefusalAt};
 ghost use Rattle.sb_log.specs.LogFiles.{HasFailed};
 ghost use Rattle.sb_log.specs.Replaying.{HoldsReplayed};
 ghost use Rattle.sb_log.specs.declared.log_fault.LogFault.TheVariants.{Device};
@@ -15,7 +16,7 @@ use sb_text::READS;
 use sha2::{Digest, Sha256};
 use std::alloc::Global;
 
-/// Reads the records of a file from its front on, and has each body replayed. Answers where they
+/// ReadsRecords the records of a file from its front on, and has each body replayed. Answers where they
 /// end. The file stays as it is.
 ///
 /// Memory is taken for one record at a time.

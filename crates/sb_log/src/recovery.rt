@@ -3,7 +3,7 @@ ghost use Rattle.std.specs.Prelude.{◌≡◌, ◌⊎◌, ◌≤◌, ◌↔◌, 
 ghost use Rattle.sb_log.specs.Lives.{Life};
 ghost use Rattle.sb_log.specs.LogCalls.{IsFileOf, Recovers};
 ghost use Rattle.sb_log.specs.Replaying.{HoldsReplayed};
-ghost use Rattle.sb_log.specs.LogFiles.{HasFailed, IsCut};
+ghost use Rattle.sb_log.specs.LogFiles.{HasFailed, IsCutTo};
 ghost use Rattle.sb_log.specs.declared.log_fault.LogFault.TheVariants.{Device, OutOfMemory};
 
 use crate::front::PIECE;
@@ -14,7 +14,7 @@ use crate::reading::read_log;
 use crate::replay::Replay;
 use std::alloc::Global;
 
-/// Reads a log as [`read_log`] does, cuts off what follows its records, and has them on the disk.
+/// ReadsRecords a log as [`read_log`] does, cuts off what follows its records, and has them on the disk.
 ///
 /// After a sync that failed, the system may hold bytes for clean that never came to the disk. So the
 /// records are written once more, the same bytes at the same places, before the file is synced. A

@@ -158,7 +158,7 @@ impl<'a> SystemFile<'a> {
         Ok(())
     }
 
-    // Appends what the piece has from a place on, at most so many bytes, and answers how many.
+    // DoesAppend what the piece has from a place on, at most so many bytes, and answers how many.
     fn push_piece(&mut self, at: usize, most: usize, out: &mut Vec<u8>) -> Result<usize, ReadFault>
         ensures bytes { IfOk result (λ count. (bytes : List ℕ) × (length bytes ≡ count) × (count ≤ most)
             × (out.new.items ≡ out.old.items ++ bytes)) }

@@ -31,7 +31,7 @@ const ENDS: [usize; 3] = [105, 163, 227];
 // Joins the bodies that are replayed. One that is `no` is refused.
 #[derive(Drop)]
 struct Bodies {
-    joined: Vec<u8>,
+    body_bytes: Vec<u8>,
     count: usize,
 }
 
@@ -56,12 +56,12 @@ impl Replay for Bodies {
 
 fn none(alloc: Global) -> Bodies {
     Bodies {
-        joined: Vec::new(alloc),
+        body_bytes: Vec::new(alloc),
         count: 0,
     }
 }
 
-// Appends a body of at most 1,000 bytes.
+// DoesAppend a body of at most 1,000 bytes.
 fn append<F: LogFile>(alloc: Global, log: &mut DurableLog<F>, body: &[u8]) -> Result<(), LogFault> {
     let mut buffer = Vec::new(alloc);
     buffer.extend_from_slice(&[0; HEAD])?;
@@ -81,13 +81,13 @@ fn logged(alloc: Global, synced: usize) -> Result<MemoryFile, Fail> {
     Ok(log.into_file())
 }
 
-// The first bodies, joined.
+// The first bodies, body_bytes.
 fn first(alloc: Global, count: usize) -> Result<Vec<u8>, Fail> {
-    let mut joined = Vec::new(alloc);
+    let mut body_bytes = Vec::new(alloc);
     for body in BODIES.iter().take(count) {
-        joined.extend_from_slice(body)?;
+        body_bytes.extend_from_slice(body)?;
     }
-    Ok(joined)
+    Ok(body_bytes)
 }
 
 // A file of these bytes.

@@ -30,7 +30,8 @@ module _ {T : Type 0} (sends : T → Option (List ℕ)) where
     pub printed : PrintsLines (session_lines 1 ends) old new
 
 -- the line of the bank's log is printed, if its keeper has a file
-abbrev pub PrintsLog : {S K : Type 0} → (K → Option (List ℕ)) → PrimaryOf S K → Option (List ℕ) → Option (List ℕ) → Type 0
+abbrev pub PrintsLog : {S K : Type 0} → (K → Option (List ℕ)) → PrimaryOf S K → Option (List ℕ) → Option (List ℕ)
+    → Type 0
 PrintsLog opening primary old new = PrintsLines (log_lines (opening primary.keeper) primary.log) old new
 
 -- these lines are printed, for the log and the opening of the bank

@@ -1,10 +1,11 @@
 -- The faults of the single steps of serving a bank.
 use Rattle.std.specs.Prelude.{◌≡◌, Bool, true, Err}
 use Rattle.bank_server.specs.declared.fault.RunFault.{RunFault}
-use Rattle.bank_server.specs.declared.fault.RunFault.TheVariants.{CrewGone, Device, OutOfMemory, Strayed}
+use Rattle.bank_server.specs.declared.fault.RunFault.TheVariants.{CrewGone, Device, OutOfMemory}
 use Rattle.bank_program.specs.declared.serve_fault.ServeFault.{ServeFault}
-use Rattle.bank_program.specs.declared.serve_fault.ServeFault.TheVariants.{AnotherOpening, Log, Run, Store}
+use Rattle.bank_program.specs.declared.serve_fault.ServeFault.TheVariants.{Log, Run, Store}
 use Rattle.bank_server.specs.declared.session_fault.SessionFault.TheVariants as session
+use Rattle.bank_program.specs.ServeFaults.{IsBankFault, IsOpeningRunFault}
 use Rattle.bank_program.specs.Sessions.{End}
 
 -- a device failed, or memory was refused
@@ -30,23 +31,10 @@ IsStoreFault stores (Run fault) = fault ≡ OutOfMemory
 IsStoreFault stores Store = stores ≡ true
 IsStoreFault stores other = ⊥
 
--- a line of the opening is at fault, a device failed, or memory was refused
-abbrev pub IsOpeningRunFault : RunFault → Type 0
-IsOpeningRunFault (Strayed node) = ⊥
-IsOpeningRunFault CrewGone = ⊥
-IsOpeningRunFault other = Unit {0}
-
+-- the same for a server
 abbrev pub IsOpeningFault : ServeFault → Type 0
 IsOpeningFault (Run fault) = IsOpeningRunFault fault
 IsOpeningFault other = ⊥
-
--- the log has another opening, or can't be read or kept; or a line of the opening is at fault, or memory was
--- refused
-abbrev pub IsBankFault : ServeFault → Type 0
-IsBankFault (Run fault) = IsOpeningRunFault fault
-IsBankFault (Log fault) = Unit {0}
-IsBankFault AnotherOpening = Unit {0}
-IsBankFault other = ⊥
 
 -- the same, or the input can't be read; or there is a store, and it takes nothing
 abbrev pub IsOpenFault : Bool → ServeFault → Type 0

@@ -1,5 +1,6 @@
 -- The values that the words after the program's name give.
-use Rattle.std.specs.Prelude.{◌≡◌, Bool, List, String, map, string_bytes}
+use Rattle.std.specs.Prelude.{◌≡◌, ℕ, Bool, List, String, map, string_bytes}
+use Rattle.bank_program.specs.declared.words.LogAction.{LogAction}
 use Rattle.bank_program.specs.declared.serving.Plan.{Plan}
 use Rattle.bank_program.specs.declared.words.Words.{Words}
 use Rattle.bank_program.specs.declared.words.Words.TheVariants.{Run, Play, Serve, Log}
@@ -34,3 +35,10 @@ IsLogWordsOf words (Log folder action) = GivesLog folder.now action (map string_
 -- the words say this
 abbrev pub IsReadOf : {A : Type 0} → List (String A) → Words → Type 0
 IsReadOf words read = NamesProgram read words × InRange read × GivesValues read words
+
+-- the words have this done with the log of this folder
+abbrev pub SaysLog : Words → List ℕ → LogAction → Type 0
+SaysLog (Run nodes workers) folder action = ⊥
+SaysLog Play folder action = ⊥
+SaysLog (Serve port plan store log) folder action = ⊥
+SaysLog (Log there done) folder action = (there.now ≡ folder) × (done ≡ action)

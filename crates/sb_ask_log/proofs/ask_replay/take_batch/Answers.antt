@@ -1,7 +1,7 @@
 use Rattle.std.proofs.Common.{length, ap, sym, ◌∙◌, arith, eqb-true, length-drop}
 use Rattle.std.proofs.lemmas.List.{take_rest}
 use Rattle.std.proofs.lemmas.Result.{err_from_is_err_and}
-use Rattle.sb_ask_log.specs.Asks.{frame_of}
+use Rattle.sb_ask_log.specs.Asks.{ask_frame}
 use Rattle.sb_ask_log.proofs.Fields.{field_filled, takes_some}
 use Rattle.sb_ask_log.proofs.Taking.{ask_refused, filled_by_test, no_ask_follows, one_taken, refused_so}
 use Rattle.sb_ask_log.proofs.ask_replay.take_batch.Goals as goal
@@ -31,7 +31,7 @@ pub loop-rest-smaller : goal.loop-rest-smaller
 loop-rest-smaller c =
     let a = c.in-Some in
     rw (take_rest c.loop-rest.rest.now a.size)
-    (omega (arith, takes_some c.loop-rest.rest.now a.size (frame_of (a.key, a.call)) a.ensures.2, a.ensures.0, length-drop a.size c.loop-rest.rest.now))
+    (omega (arith, takes_some c.loop-rest.rest.now a.size (ask_frame (a.key, a.call)) a.ensures.2, a.ensures.0, length-drop a.size c.loop-rest.rest.now))
 
 pub loop-rest-preserved : goal.loop-rest-preserved
 loop-rest-preserved c =

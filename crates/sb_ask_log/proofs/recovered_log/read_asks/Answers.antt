@@ -1,7 +1,7 @@
 use Rattle.std.proofs.Common.{Ok, Err, refl}
 use Rattle.std.proofs.lemmas.Result.{err_from_is_err_and}
 use Rattle.sb_log.specs.declared.log_fault.LogFault.TheVariants.{Device}
-use Rattle.sb_ask_log.specs.Replaying.{AskReplayOf}
+use Rattle.sb_ask_log.specs.inner.Replaying.{AskReplayOf}
 use Rattle.sb_ask_log.proofs.Recovering.{err_again, read_at, read_fault, read_holds, read_is}
 use Rattle.sb_ask_log.proofs.recovered_log.read_asks.Goals as goal
 

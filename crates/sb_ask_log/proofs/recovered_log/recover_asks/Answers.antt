@@ -1,7 +1,7 @@
 use Rattle.std.proofs.Common.{Ok, Err, refl}
 use Rattle.std.proofs.lemmas.Result.{err_from_is_err_and}
 use Rattle.sb_log.specs.declared.log_fault.LogFault.TheVariants.{Device}
-use Rattle.sb_ask_log.specs.Replaying.{AskReplayOf}
+use Rattle.sb_ask_log.specs.inner.Replaying.{AskReplayOf}
 use Rattle.sb_ask_log.proofs.Recovering.{damaged_stays, err_again, life_of, read_holds, read_is, recover_fault, recovered_at, recovered_empty, recovered_tells}
 use Rattle.sb_ask_log.proofs.recovered_log.recover_asks.Goals as goal
 

@@ -59,5 +59,6 @@ loop-preserved g c =
             )
           ] in
           subst (λ (n : ℕ). Counted (drop c.args.at content) (c.loop.size + n) c.if-blank.blank) len
-          (one_more (drop c.args.at content) c.read_at.new.out.items c.loop.size 65536 c.loop.blank c.if-blank.blank (c.loop.invariant.counted honest) piece both);
+          (one_more (drop c.args.at content) c.read_at.new.out.items c.loop.size 65536 c.loop.blank c.if-blank.blank
+          (c.loop.invariant.counted honest) piece both);
     }

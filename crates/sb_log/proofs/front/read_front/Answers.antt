@@ -99,7 +99,8 @@ returns-then-not-are_same-clause-front g c honest before holds =
     (c.read_at.ensures.content honest) (sym c.deref.ensures.value ∙ first)
     (c.in_ok-read_at-2.ensures.read (c.read_at.ensures.honest.0 honest)) refl in
     let head : 40 ≤ length rest =
-    all_there rest c.deref.result.now 40 first (omega (arith, c.len.ensures, c.read_at.new.out.ok.0, ap length c.deref.ensures.value, c.if-len-lt-HEAD.false)) in
+    all_there rest c.deref.result.now 40 first (omega
+    (arith, c.len.ensures, c.read_at.new.out.ok.0, ap length c.deref.ensures.value, c.if-len-lt-HEAD.false)) in
     let long = all_there rest read (40 + size) bytes
     (omega (arith, head, ap length bytes, length-take (40 + size) rest, c.len-2.ensures, c.read_at-2.new.out.ok.0, c.if-len-size.false)) in
     let longer = longer_holds c.deref-2.result.now c.with_body-longer.result before (c.with_body-longer.ensures before holds) in
@@ -128,15 +129,23 @@ returns-clause-front g c honest before holds =
     (c.read_at.ensures.content honest) (sym c.deref.ensures.value ∙ first)
     (c.in_ok-read_at-2.ensures.read (c.read_at.ensures.honest.0 honest)) refl in
     let head : 40 ≤ length rest =
-    all_there rest c.deref.result.now 40 first (omega (arith, c.len.ensures, c.read_at.new.out.ok.0, ap length c.deref.ensures.value, c.if-len-lt-HEAD.false)) in
+    all_there rest c.deref.result.now 40 first (omega
+    (arith, c.len.ensures, c.read_at.new.out.ok.0, ap length c.deref.ensures.value, c.if-len-lt-HEAD.false)) in
     let long = all_there rest read (40 + size) bytes
     (omega (arith, head, ap length bytes, length-take (40 + size) rest, c.len-2.ensures, c.read_at-2.new.out.ok.0, c.if-len-size.false)) in
     let longer = longer_holds c.deref-2.result.now c.with_body-longer.result before (c.with_body-longer.ensures before holds) in
     let digest : c.digest_of-digest.result ≡ sha256 (before ++ drop 40 read) =
     c.digest_of-digest.ensures (before ++ drop 40 c.deref-2.result.now) longer ∙ ap (λ (l : List ℕ). sha256 (before ++ drop 40 l)) c.deref-2.ensures.value in
     let found = whole before rest read size bytes long (omega arith) begins
-    (ap (λ (l : List ℕ). take 32 (drop 8 l)) (sym c.deref-3.ensures.value) ∙ c.are_same.ensures.0 c.if-not-are_same.false ∙ digest) in
-    (drop 40 read, drop (40 + size) rest, found.0, found.1, found.2, subst (λ (l : List ℕ). Holds256 c.with_body-longer.result (before ++ drop 40 l)) c.deref-2.ensures.value longer)
+    (ap (λ (l : List ℕ). take 32 (drop 8 l)) (sym c.deref-3.ensures.value) ∙ c.are_same.ensures.0 c.if-not-are_same.false ∙ digest) in (
+      drop 40 read,
+      drop (40 + size) rest,
+      found.0,
+      found.1,
+      found.2,
+      subst (λ (l : List ℕ). Holds256 c.with_body-longer.result
+          (before ++ drop 40 l)) c.deref-2.ensures.value longer,
+    )
 
 pub returns-clause-hasher : goal.returns-clause-hasher
 returns-clause-hasher g c before holds =

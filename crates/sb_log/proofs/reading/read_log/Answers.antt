@@ -1,11 +1,12 @@
 use Rattle.std.proofs.Common.{◌≡◌, ◌+◌, ℕ, List, drop, length, sym, inl, ap, subst, ◌∙◌, arith, rules, Result, Err}
-use Rattle.sb_log.specs.Front.{HashesFront, HasNoRecord, IsFront}
+use Rattle.sb_log.specs.inner.Front.{HashesFront, HasNoRecord, IsFront}
 use Rattle.sb_log.specs.Reading.{IsTorn}
-use Rattle.sb_log.specs.LogCalls.{IsRefusalAt, ReadsLog}
+use Rattle.sb_log.specs.LogCalls.{ReadsLog}
+use Rattle.sb_log.specs.inner.Refusals.{IsRefusalAt}
 use Rattle.sb_log.specs.declared.front.Front.{Front}
 use Rattle.sb_log.specs.declared.log_end.LogEnd.{LogEnd}
 use Rattle.sb_log.specs.declared.log_fault.LogFault.{LogFault}
-use Rattle.sb_log.specs.Records.{joined}
+use Rattle.sb_log.specs.Records.{body_bytes}
 use Rattle.sb_log.proofs.Failures.{err_is, failed_before}
 use Rattle.sb_log.proofs.Fronts.{body_in}
 use Rattle.sb_log.proofs.SoFar.{ReadSoFar, holds_one_more, one_read, reads_all, refused}
@@ -26,13 +27,15 @@ returns-in_err-replay_record-in-Record-clause-read g c honest =
     let here = c.loop.invariant.honest.0 honest in
     let there = c.read_front.ensures.honest.0 here in
     let s = c.loop.invariant.so_far honest in
-    let same : drop c.loop.records (g.F.LogFile.content c.loop.file) ≡ drop c.loop.records content = ap (drop c.loop.records) (c.loop.invariant.content honest) in
-    let front = subst (λ (f : Front). IsFront (joined s.bodies) (drop c.loop.records (g.F.LogFile.content c.loop.file)) f c.read_front.new.buffer.items c.read_front.new.hasher)
-    c.in-Record.is (c.in_ok-read_front.ensures.front here (joined s.bodies) s.holds) in
+    let same : drop c.loop.records (g.F.LogFile.content c.loop.file) ≡ drop c.loop.records content = ap (drop c.loop.records)
+    (c.loop.invariant.content honest) in
+    let front = subst (λ (f : Front). IsFront (body_bytes s.bodies) (drop c.loop.records
+    (g.F.LogFile.content c.loop.file)) f c.read_front.new.buffer.items c.read_front.new.hasher)
+    c.in-Record.is (c.in_ok-read_front.ensures.front here (body_bytes s.bodies) s.holds) in
     let fault = c.in_err-replay_record-in-Record.field-0.0 in
     let known : c.from_residual-in_err-replay_record-in-Record.result ≡ Err fault =
     err_is _ fault c.from_residual-in_err-replay_record-in-Record.ensures.0 c.from_residual-in_err-replay_record-in-Record.ensures.1 in
-    let body_is : drop 40 c.read_front.new.buffer.items ≡ front.0 = ap (drop 40) front.3 ∙ body_in (joined s.bodies) front.0 in
+    let body_is : drop 40 c.read_front.new.buffer.items ≡ front.0 = ap (drop 40) front.3 ∙ body_in (body_bytes s.bodies) front.0 in
     let unchanged : g.F.LogFile.content c.read_front.new.file ≡ content = c.read_front.ensures.content here ∙ c.loop.invariant.content honest in
     let Honest = g.F.LogFile.IsHonest c.read_front.new.file in
     let refusal : IsRefusalAt Honest content c.loop.records (g.T.Replay.Refuses c.loop.replay front.0) fault =
@@ -50,9 +53,10 @@ returns-in-Damaged-clause-read g c honest =
     let s = c.loop.invariant.so_far honest in
     let rest = drop c.loop.records content in
     let same : drop c.loop.records (g.F.LogFile.content c.loop.file) ≡ rest = ap (drop c.loop.records) (c.loop.invariant.content honest) in
-    let front = subst (λ (f : Front). IsFront (joined s.bodies) (drop c.loop.records (g.F.LogFile.content c.loop.file)) f c.read_front.new.buffer.items c.read_front.new.hasher)
-    c.in-Damaged.is (c.in_ok-read_front.ensures.front here (joined s.bodies) s.holds) in
-    let none = subst (HasNoRecord (joined s.bodies)) same front.2 in
+    let front = subst (λ (f : Front). IsFront (body_bytes s.bodies) (drop c.loop.records
+    (g.F.LogFile.content c.loop.file)) f c.read_front.new.buffer.items c.read_front.new.hasher)
+    c.in-Damaged.is (c.in_ok-read_front.ensures.front here (body_bytes s.bodies) s.holds) in
+    let none = subst (HasNoRecord (body_bytes s.bodies)) same front.2 in
     subst (λ (fault : LogFault). ReadsLog g.T.Replay.Replays g.T.Replay.Refuses content c.args.replay.now (Err fault) c.loop.replay) (sym c.damage.ensures)
     (record {
       bodies = s.bodies;
@@ -87,19 +91,23 @@ loop-preserved g c =
       bound = omega (arith, size.1, len, c.loop.invariant.bound);
       replays = holds_one_more g.T.Replay.Replays c.args.replay.now c.loop.replay c.replay_record.new.replay c.loop.hasher c.read_front.new.hasher
           (drop 40 c.read_front.new.buffer.items) c.loop.invariant.replays
-          (subst (λ (f : Front). HashesFront (joined c.loop.invariant.replays.bodies) f c.read_front.new.buffer.items c.read_front.new.hasher) c.in-Record.is
-          (c.in_ok-read_front.ensures.hasher (joined c.loop.invariant.replays.bodies) c.loop.invariant.replays.holds))
+          (subst (λ (f : Front). HashesFront
+          (body_bytes c.loop.invariant.replays.bodies) f c.read_front.new.buffer.items c.read_front.new.hasher) c.in-Record.is
+          (c.in_ok-read_front.ensures.hasher (body_bytes c.loop.invariant.replays.bodies) c.loop.invariant.replays.holds))
           c.in_ok-replay_record-in-Record.ensures.replayed;
       so_far = λ honest.
           let content = g.F.LogFile.content c.args.file.now in
           let here = c.loop.invariant.honest.0 honest in
           let s = c.loop.invariant.so_far honest in
-          let same : drop c.loop.records (g.F.LogFile.content c.loop.file) ≡ drop c.loop.records content = ap (drop c.loop.records) (c.loop.invariant.content honest) in
-          let front = subst (λ (f : Front). IsFront (joined s.bodies) (drop c.loop.records (g.F.LogFile.content c.loop.file)) f c.read_front.new.buffer.items c.read_front.new.hasher)
-          c.in-Record.is (c.in_ok-read_front.ensures.front here (joined s.bodies) s.holds) in
-          let body_is : drop 40 c.read_front.new.buffer.items ≡ front.0 = ap (drop 40) front.3 ∙ body_in (joined s.bodies) front.0 in
+          let same : drop c.loop.records (g.F.LogFile.content c.loop.file) ≡ drop c.loop.records content = ap (drop c.loop.records)
+          (c.loop.invariant.content honest) in
+          let front = subst (λ (f : Front). IsFront (body_bytes s.bodies) (drop c.loop.records
+          (g.F.LogFile.content c.loop.file)) f c.read_front.new.buffer.items c.read_front.new.hasher)
+          c.in-Record.is (c.in_ok-read_front.ensures.front here (body_bytes s.bodies) s.holds) in
+          let body_is : drop 40 c.read_front.new.buffer.items ≡ front.0 = ap (drop 40) front.3 ∙ body_in (body_bytes s.bodies) front.0 in
           subst (λ (n : ℕ). ReadSoFar g.T.Replay.Replays content c.args.replay.now (c.loop.records + n) c.read_front.new.hasher c.replay_record.new.replay) len
           (one_read g.T.Replay.Replays content c.args.replay.now c.loop.replay c.replay_record.new.replay c.loop.records c.loop.hasher c.read_front.new.hasher
           c.read_front.new.buffer.items front.0 front.1 s front.2 front.3 (sym same ∙ front.4) front.5
-          (subst (λ (body : List ℕ). g.T.Replay.Replays c.loop.replay body c.replay_record.new.replay) body_is c.in_ok-replay_record-in-Record.ensures.replayed));
+          (subst (λ (body : List ℕ). g.T.Replay.Replays c.loop.replay body c.replay_record.new.replay) body_is
+          c.in_ok-replay_record-in-Record.ensures.replayed));
     }

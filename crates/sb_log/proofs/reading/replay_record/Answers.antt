@@ -1,5 +1,5 @@
 use Rattle.std.proofs.Common.{ℕ, List, ◌-◌, take, drop, length, refl, sym, subst, rules}
-use Rattle.sb_log.specs.LogCalls.{IsRefusalAt}
+use Rattle.sb_log.specs.inner.Refusals.{IsRefusalAt}
 use Rattle.sb_log.specs.declared.log_fault.LogFault.{LogFault}
 use Rattle.sb_log.specs.Replaying.{IsReplayFault}
 use Rattle.sb_log.proofs.Records.{behind_is}

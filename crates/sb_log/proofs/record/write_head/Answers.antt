@@ -23,5 +23,17 @@ returns-clause-body c =
     let all = c.copy_from_slice.new.self ++ drop 8 bytes in
     drop-put_mid 8 32 all c.copy_from_slice-2.new.self 40 (omega arith)
     (omega (arith, size, length-append c.copy_from_slice.new.self (drop 8 bytes)))
-    (omega (arith, size, length-append c.copy_from_slice.new.self (drop 8 bytes), length-drop 8 bytes, c.requires.head, ap length c.copy_from_slice-2.ensures.after, length-take 32 (drop 8 all), length-drop 8 all, c.copy_from_slice-2.ensures.len))
+    (omega (
+      arith,
+      size,
+      length-append c.copy_from_slice.new.self
+          (drop 8 bytes),
+      length-drop 8 bytes,
+      c.requires.head,
+      ap length c.copy_from_slice-2.ensures.after,
+      length-take 32
+          (drop 8 all),
+      length-drop 8 all,
+      c.copy_from_slice-2.ensures.len,
+    ))
     ∙ behind_field bytes c.copy_from_slice.new.self size

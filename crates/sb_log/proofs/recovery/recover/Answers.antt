@@ -1,6 +1,6 @@
 use Rattle.std.proofs.Common.{◌≡◌, ℕ, List, length, true, refl, sym, ap, subst, ◌∙◌, rules, inl, inr, Result, Err}
 use Rattle.sb_log.specs.LogCalls.{Recovers}
-use Rattle.sb_log.specs.Reading.{Reads}
+use Rattle.sb_log.specs.Reading.{ReadsRecords}
 use Rattle.sb_log.specs.Records.{records}
 use Rattle.sb_log.specs.declared.log_end.LogEnd.{LogEnd}
 use Rattle.sb_log.specs.declared.log_fault.LogFault.{LogFault}
@@ -14,7 +14,8 @@ returns-in_err-end-clause-device g c err = c.in_err-end.ensures.device (search (
 pub returns-in_err-write_again-clause-device : goal.returns-in_err-write_again-clause-device
 returns-in_err-write_again-clause-device g c err =
     failed_before _ _ _ c.read_log.ensures.honest.0 c.read_log.ensures.content
-    (failed_before_cut _ c.in_ok-end.end.records _ _ c.cut.ensures.honest.0 (λ there. (on_ok c.cut.result _ (sym c.is_err.ensures.value ∙ c.if-is_err.false) (c.cut.ensures.cut there)).0)
+    (failed_before_cut _ c.in_ok-end.end.records _ _ c.cut.ensures.honest.0 (λ there. (on_ok c.cut.result _ (sym c.is_err.ensures.value ∙ c.if-is_err.false)
+    (c.cut.ensures.cut there)).0)
     (c.in_err-write_again.ensures.device (search (rules, err))))
 
 pub returns-then-is_err-clause-life : goal.returns-then-is_err-clause-life
@@ -26,7 +27,7 @@ returns-then-is_err-clause-life g c honest l life =
     elim (on_err c.cut.result _ (sym c.is_err.ensures.value ∙ c.if-is_err.true) (c.cut.ensures.err there)) [
       | inl cut ↦ (
         cut_life l read.0,
-        inr (read.0, read.1, (subst (λ (b : List ℕ). Reads b read.0 read.1) (sym life.content_is) to.reads, to.torn, refl)),
+        inr (read.0, read.1, (subst (λ (b : List ℕ). ReadsRecords b read.0 read.1) (sym life.content_is) to.reads, to.torn, refl)),
         is_cut l content (g.F.LogFile.content c.read_log.new.file) (g.F.LogFile.content c.cut.new.self) (g.F.LogFile.synced c.args.file.now)
             (g.F.LogFile.synced c.read_log.new.file) (g.F.LogFile.synced c.cut.new.self) c.in_ok-end.end.records read.0 read.1 life
             (c.read_log.ensures.content honest) (c.read_log.ensures.synced honest) to.reads to.records_is cut,
@@ -56,9 +57,11 @@ returns-in_err-write_again-clause-life g c honest l life =
     let known : c.from_residual-in_err-write_again.result ≡ Err fault =
     err_is _ fault c.from_residual-in_err-write_again.ensures.0 c.from_residual-in_err-write_again.ensures.1 in (
       cut_life l read.0,
-      subst (λ (r : Result LogEnd LogFault). Recovers g.T.Replay.Replays g.T.Replay.Refuses l c.args.replay.now r c.read_log.new.replay (cut_life l read.0)) (sym known)
-          (told_nothing g.T.Replay.Replays g.T.Replay.Refuses l c.args.replay.now c.read_log.new.replay fault (cut_life l read.0) c.in_err-write_again.ensures.fault
-          (inr (read.0, read.1, (subst (λ (b : List ℕ). Reads b read.0 read.1) (sym life.content_is) to.reads, to.torn, refl)))),
+      subst (λ (r : Result LogEnd LogFault). Recovers g.T.Replay.Replays g.T.Replay.Refuses l c.args.replay.now r c.read_log.new.replay (cut_life l read.0))
+          (sym known)
+          (told_nothing g.T.Replay.Replays g.T.Replay.Refuses l c.args.replay.now c.read_log.new.replay fault
+          (cut_life l read.0) c.in_err-write_again.ensures.fault
+          (inr (read.0, read.1, (subst (λ (b : List ℕ). ReadsRecords b read.0 read.1) (sym life.content_is) to.reads, to.torn, refl)))),
       record {
         content_is = file.content_is ∙ sym (c.write_again.ensures.content behind);
         synced_is = file.synced_is ∙ sym (c.write_again.ensures.synced behind);
@@ -82,9 +85,11 @@ returns-in_err-sync_all-clause-life g c honest l life =
     let known : c.from_residual-in_err-sync_all.result ≡ Err fault =
     err_is _ fault c.from_residual-in_err-sync_all.ensures.0 c.from_residual-in_err-sync_all.ensures.1 in (
       cut_life l read.0,
-      subst (λ (r : Result LogEnd LogFault). Recovers g.T.Replay.Replays g.T.Replay.Refuses l c.args.replay.now r c.read_log.new.replay (cut_life l read.0)) (sym known)
-          (told_nothing g.T.Replay.Replays g.T.Replay.Refuses l c.args.replay.now c.read_log.new.replay fault (cut_life l read.0) (inl c.in_err-sync_all.ensures.fault)
-          (inr (read.0, read.1, (subst (λ (b : List ℕ). Reads b read.0 read.1) (sym life.content_is) to.reads, to.torn, refl)))),
+      subst (λ (r : Result LogEnd LogFault). Recovers g.T.Replay.Replays g.T.Replay.Refuses l c.args.replay.now r c.read_log.new.replay (cut_life l read.0))
+          (sym known)
+          (told_nothing g.T.Replay.Replays g.T.Replay.Refuses l c.args.replay.now c.read_log.new.replay fault (cut_life l read.0)
+          (inl c.in_err-sync_all.ensures.fault)
+          (inr (read.0, read.1, (subst (λ (b : List ℕ). ReadsRecords b read.0 read.1) (sym life.content_is) to.reads, to.torn, refl)))),
       record {
         content_is = file.content_is ∙ sym (c.sync_all.ensures.content written ∙ c.write_again.ensures.content behind);
         synced_is = file.synced_is ∙ sym (stays ∙ c.write_again.ensures.synced behind);
@@ -104,7 +109,7 @@ returns-clause-life g c honest l life =
     (g.F.LogFile.synced c.read_log.new.file) (g.F.LogFile.synced c.cut.new.self) c.in_ok-end.end.records read.0 read.1 life
     (c.read_log.ensures.content honest) (c.read_log.ensures.synced honest) to.reads to.records_is cut in
     let synced = c.in_ok-sync_all.ensures.synced written in
-    let reads = subst (λ (b : List ℕ). Reads b read.0 read.1) (sym life.content_is) to.reads in
+    let reads = subst (λ (b : List ℕ). ReadsRecords b read.0 read.1) (sym life.content_is) to.reads in
     let all : records read.0 ≡ g.F.LogFile.content c.write_again.new.file = file.content_is ∙ sym (c.write_again.ensures.content behind) in (
       record { content = records read.0; synced = length (records read.0); given = read.0; told = read.0; healthy = true },
       (

@@ -9,12 +9,14 @@ use Rattle.bank_server.proofs.primary.Primary.settle.Goals as goal
 
 pub returns-clause-crew_lost : goal.returns-clause-crew_lost
 returns-clause-crew_lost g c =
-    let node : c.deref_mut.result.now ≡ c.args.self.now.node = c.deref_mut.ensures.value ∙ ap (λ (p : PrimaryOf g.row.S.Denot g.row.K.Denot). p.node) c.self.view_is in
+    let node : c.deref_mut.result.now ≡ c.args.self.now.node = c.deref_mut.ensures.value ∙ ap (λ
+    (p : PrimaryOf g.row.S.Denot g.row.K.Denot). p.node) c.self.view_is in
     subst (λ (r : ReplicaOf g.row.S.Denot). IfErr c.execute_rest.result (LosesCrew g.C.Crew.keeps r.board)) node c.execute_rest.ensures.crew_lost
 
 pub returns-clause-none_out : goal.returns-clause-none_out
 returns-clause-none_out g c =
-    let node : c.deref_mut.result.now ≡ c.args.self.now.node = c.deref_mut.ensures.value ∙ ap (λ (p : PrimaryOf g.row.S.Denot g.row.K.Denot). p.node) c.self.view_is in
+    let node : c.deref_mut.result.now ≡ c.args.self.now.node = c.deref_mut.ensures.value ∙ ap (λ
+    (p : PrimaryOf g.row.S.Denot g.row.K.Denot). p.node) c.self.view_is in
     λ e. subst (λ (r : ReplicaOf g.row.S.Denot). HasNoneOut r.board → HasNoneOut c.execute_rest.new.node.board) node (c.execute_rest.ensures.none_out e)
 
 pub returns-clause-bank : goal.returns-clause-bank

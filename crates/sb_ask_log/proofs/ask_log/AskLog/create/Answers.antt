@@ -6,28 +6,28 @@ use Rattle.sha2.specs.declared.Sha256.{Sha256}
 use Rattle.sb_log.specs.Lives.{newborn}
 use Rattle.sb_log.specs.LogCalls.{DurableLogOf, IsFileOf, IsLogOf}
 use Rattle.sb_log.specs.declared.record.TheConstants.{HEAD}
-use Rattle.sb_ask_log.specs.LogFile.{IsOpeningText, log_bytes, magic}
+use Rattle.sb_ask_log.specs.LogFile.{IsOpeningText, log_bytes, log_magic}
 use Rattle.sb_ask_log.proofs.Saving.{tells_opening}
 use Rattle.sb_ask_log.proofs.ask_log.AskLog.create.Goals as goal
 
 -- what is behind the head of a record
-body_of : (head_bytes items longer all text : List ℕ) → length head_bytes ≡ HEAD → items ≡ head_bytes → longer ≡ items ++ magic → all ≡ longer ++ text
-    → drop HEAD all ≡ magic ++ text
+body_of : (head_bytes items longer all text : List ℕ) → length head_bytes ≡ HEAD → items ≡ head_bytes → longer ≡ items ++ log_magic → all ≡ longer ++ text
+    → drop HEAD all ≡ log_magic ++ text
 body_of head_bytes items longer all text size is more whole =
     ap (λ (l : List ℕ). drop HEAD l)
-    (whole ∙ ap (λ (l : List ℕ). l ++ text) (more ∙ ap (λ (l : List ℕ). l ++ magic) is) ∙ append_assoc head_bytes magic text)
-    ∙ drop_at head_bytes (magic ++ text) HEAD size
+    (whole ∙ ap (λ (l : List ℕ). l ++ text) (more ∙ ap (λ (l : List ℕ). l ++ log_magic) is) ∙ append_assoc head_bytes log_magic text)
+    ∙ drop_at head_bytes (log_magic ++ text) HEAD size
 
 pub returns-clause-keeps : goal.returns-clause-keeps
 returns-clause-keeps g c =
     let text : c.in_ok-text.text.items ≡ c.args.text.now = c.in_ok-text.ensures.items in
-    let body : drop HEAD c.deref_mut.result.now ≡ magic ++ c.in_ok-text.text.items =
+    let body : drop HEAD c.deref_mut.result.now ≡ log_magic ++ c.in_ok-text.text.items =
     body_of _ c.in_ok-batch.batch.items c.extend_from_slice.new.self.items c.deref_mut.result.now c.in_ok-text.text.items refl c.in_ok-batch.ensures.items
     c.in_ok-extend_from_slice.ensures.items
     (c.deref_mut.ensures.value ∙ c.in_ok-extend_from_slice-2.ensures.items
     ∙ ap (λ (l : List ℕ). c.extend_from_slice.new.self.items ++ l) c.deref.ensures.value) in
     let bytes : drop HEAD c.deref_mut.result.now ≡ log_bytes c.in_ok-text.text.items [] =
-    body ∙ ap (λ (l : List ℕ). magic ++ l) (sym (append-nil c.in_ok-text.text.items)) in
+    body ∙ ap (λ (l : List ℕ). log_magic ++ l) (sym (append-nil c.in_ok-text.text.items)) in
     let empty : Holds256 c.new-log.result.hasher [] =
     subst (λ (h : Sha256). Holds256 h []) (ap (λ (l : DurableLogOf g.row.F.Denot). l.hasher) (sym c.new-log.ensures)) c.new.ensures in
     let longer : Holds256 c.append.new.self.hasher (log_bytes c.in_ok-text.text.items []) =

@@ -1,15 +1,16 @@
 use Rattle.std.proofs.Common.{◌≡◌, ◌++◌, ◌∷◌, [], false, not, refl, sym, ap, subst, ◌∙◌, inl, rules, List, ℕ, take, drop}
 use Rattle.sha2.specs.Hashers.{Holds256}
-use Rattle.sb_log.specs.Records.{joined, record_after}
+use Rattle.sb_log.specs.Records.{body_bytes, record_after}
 use Rattle.sb_log.proofs.Records.{joined_push, longer_holds}
 use Rattle.sb_log.proofs.durable_log.DurableLog.append.Goals as goal
 
 pub returns-in-Ok-clause-life : goal.returns-in-Ok-clause-life
 returns-in-Ok-clause-life g c = rw (← c.self.view_is) (λ honest l life.
     let body = drop 40 c.args.buffer.now in
-    let last = record_after (joined l.given) body in
-    let holds = longer_holds c.args.buffer.now c.with_body-longer.result (joined l.given) (c.with_body-longer.ensures (joined l.given) (life.holds c.if-self.false)) in
-    let bytes : c.write_head.new.bytes ≡ last = c.write_head.ensures.record (joined l.given) holds in (
+    let last = record_after (body_bytes l.given) body in
+    let holds = longer_holds c.args.buffer.now c.with_body-longer.result (body_bytes l.given) (c.with_body-longer.ensures (body_bytes l.given)
+    (life.holds c.if-self.false)) in
+    let bytes : c.write_head.new.bytes ≡ last = c.write_head.ensures.record (body_bytes l.given) holds in (
       record l { content = l.content ++ last; given = l.given ++ body ∷ [] },
       (life.healthy_is ∙ ap not c.if-self.false, c.requires.body, refl),
       record {
@@ -29,9 +30,10 @@ returns-in-Ok-clause-hasher g c = rw (← c.self.view_is) (λ m h. longer_holds 
 pub returns-in-Err-clause-life : goal.returns-in-Err-clause-life
 returns-in-Err-clause-life g c = rw (← c.self.view_is) (λ honest l life.
     let body = drop 40 c.args.buffer.now in
-    let last = record_after (joined l.given) body in
-    let holds = longer_holds c.args.buffer.now c.with_body-longer.result (joined l.given) (c.with_body-longer.ensures (joined l.given) (life.holds c.if-self.false)) in
-    let bytes : c.write_head.new.bytes ≡ last = c.write_head.ensures.record (joined l.given) holds in
+    let last = record_after (body_bytes l.given) body in
+    let holds = longer_holds c.args.buffer.now c.with_body-longer.result (body_bytes l.given) (c.with_body-longer.ensures (body_bytes l.given)
+    (life.holds c.if-self.false)) in
+    let bytes : c.write_head.new.bytes ≡ last = c.write_head.ensures.record (body_bytes l.given) holds in
     let torn = c.in-Err.ensures.torn honest in (
       record l { content = l.content ++ take torn.0 last; given = l.given ++ body ∷ []; healthy = false },
       inl (torn.0, (life.healthy_is ∙ ap not c.if-self.false, c.requires.body, refl)),

@@ -5,7 +5,7 @@ use Rattle.sb_calls.specs.declared.ask.Key.{Key}
 use Rattle.sb_calls.specs.declared.call.Call.{Call}
 use Rattle.sb_sequencer.specs.Numbering.{IsLog}
 use Rattle.sb_ask_log.specs.Asks.{IsAsk, asks_field}
-use Rattle.sb_ask_log.specs.LogFile.{IsOpeningText, magic}
+use Rattle.sb_ask_log.specs.LogFile.{IsOpeningText, log_magic}
 
 -- the opening text, which is empty before it is read, and the asks by their numbers
 pub record AskReplayOf : Type 0 where
@@ -15,7 +15,7 @@ pub record AskReplayOf : Type 0 where
 -- the body of the opening was taken
 pub record TakesOpening (old : AskReplayOf) (body : List ℕ) (new : AskReplayOf) : Type 0 where
   pub first : old.text ≡ []
-  pub body_is : body ≡ magic ++ new.text
+  pub body_is : body ≡ log_magic ++ new.text
   pub opening : IsOpeningText new.text
   pub log_is : new.log ≡ old.log
 

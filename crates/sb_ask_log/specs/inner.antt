@@ -1,0 +1,2 @@
+pub mod FirstAsk
+pub mod Replaying

@@ -1,0 +1,3 @@
+pub mod FaultConversions
+pub mod Front
+pub mod Refusals
