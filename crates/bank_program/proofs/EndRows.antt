@@ -11,7 +11,7 @@ use Rattle.sb_sequencer.specs.Numbering.{calls_of}
 use Rattle.bank_server.specs.Primary.{HasWholeLog, IsPrimary, PrimaryOf, log_ops}
 use Rattle.bank_server.proofs.Boards.{one_by_one}
 
-module _ {S : Type 0} (primary : PrimaryOf S) (node : ReplicaOf S) (is : node ≡ primary.node) (valid : IsPrimary primary) (all : HasWholeLog primary) where
+module _ {S K : Type 0} (primary : PrimaryOf S K) (node : ReplicaOf S) (is : node ≡ primary.node) (valid : IsPrimary primary) (all : HasWholeLog primary) where
   -- the columns after the whole log are the rows after the log, one by one
   pub rows_are : (settled : Option (Bor Balances)) (lent : Bor Balances) → settled ≡ Some lent
       → MatchOption settled (unfinished_of node.board ≢ 0) (λ l. (unfinished_of node.board ≡ 0) × IsAfterAll declared_cowns effect_of node.board l.now)
