@@ -14,7 +14,7 @@ use Rattle.bank_server.specs.declared.fault.InputFault.TheVariants.{Opening}
 use Rattle.bank_program.specs.Opening.{with_nothing_behind, whole_opening_of}
 
 -- what follows the opening that was read decides
-whole_is : (text : List ℕ) (read : Result OpeningText (ℕ × LineFault)) → opening_of text ≡ read
+pub whole_is : (text : List ℕ) (read : Result OpeningText (ℕ × LineFault)) → opening_of text ≡ read
     → whole_opening_of text ≡ (in_opening read >>= λ opening. with_nothing_behind opening (drop opening.consumed text))
 whole_is text read is = ap (λ found. in_opening found >>= λ opening. with_nothing_behind opening (drop opening.consumed text)) is
 

@@ -51,7 +51,7 @@ pub fn open_on_file<F: LogFile, S: CheckpointStore>(
     let found = recover_asks(alloc, &mut file)?;
     let cut = found.end.torn;
     let primary = if found.text.is_empty() {
-        create(alloc, file, found, input, store)?
+        create(alloc, file, input, store)?
     } else {
         resume(alloc, file, found, input, store)?
     };
@@ -62,13 +62,11 @@ pub fn open_on_file<F: LogFile, S: CheckpointStore>(
 fn create<F: LogFile, S: CheckpointStore>(
     alloc: Global,
     file: F,
-    found: RecoveredLog,
     input: &[u8],
     store: S,
 ) -> Result<Primary<S, AskLog<F>>, ServeFault>
-    requires log { F.IsHonest file → found.log.value.log ≡ [] }
     requires empty { F.IsHonest file → (F.content file ≡ []) × (F.synced file ≡ 0) }
-    ensures on { F.IsHonest file → IfOk result (IsBankOn store (with_line_end input.now) []) }
+    ensures on { IfOk result (IsBankOn store (with_line_end input.now) []) }
     ensures no_entries { IfOk result (λ primary. HasNoEntries primary.node.board) }
     ensures fault { IfErr result IsBankFault }
 {

@@ -1,0 +1,123 @@
+-- The text of a new log is an opening up to its end.
+use Rattle.std.proofs.Common.{◌≡◌, ℕ, suc, ◌+◌, ◌-◌, ◌<◌, ◌≤◌, ◌==◌, ◌≢◌, Bool, true, false, not, eqb-true, if◌then◌else◌, Result, Ok, Err, List, [], ◌∷◌, ◌++◌, length, slice_index, take, drop, refl, sym, ap, ◌∙◌, arith, length-drop}
+use Rattle.std.proofs.Math.ListN.{drop_of_length-le}
+use Rattle.std.proofs.Math.Seq.{drop-cons}
+use Rattle.std.proofs.lemmas.List.{nil_from_length, take-append-drop}
+use Rattle.sb_rows.specs.Customer.{Customer, names_of, balances_of}
+use Rattle.sb_rows.specs.Opening.{OpeningText, customers_from, opening_of, ◌>>=◌}
+use Rattle.sb_rows.specs.Text.{lines, bytes_of_lines}
+use Rattle.sb_rows.specs.declared.fault.LineFault.{LineFault}
+use Rattle.sb_rows.specs.declared.fault.LineFault.TheVariants.{NoBegin}
+use Rattle.sb_rows.proofs.OpeningSteps.{customers_from-nil, opening_of-fault}
+use Rattle.sb_rows.proofs.SplitAtFirstByte.{lines-nil}
+use Rattle.sb_ask_log.specs.LogFile.{IsOpeningText}
+use Rattle.bank_server.specs.Input.{in_opening}
+use Rattle.bank_program.specs.OpenedBank.{with_line_end}
+use Rattle.bank_program.specs.Opening.{with_nothing_behind, whole_opening_of}
+use Rattle.bank_program.proofs.WholeOpenings.{whole_is}
+
+-- ---- the end of the last line
+
+-- the last byte stands last
+ends_at : (text : List ℕ) → 0 < length text → slice_index text (length text - 1) ≡ 10
+    → (front : List ℕ) × (text ≡ front ++ 10 ∷ [])
+ends_at text some is =
+    let k = length text - 1 in
+    let below : k < length text = omega arith in
+    let none : drop (suc k) text ≡ [] = drop_of_length-le text {i = suc k} (omega arith) in
+    let last : drop k text ≡ 10 ∷ [] = drop-cons text k 0 below ∙ (rw (is, none) refl) in
+    (take k text, sym (take-append-drop k text) ∙ ap (λ (l : List ℕ). take k text ++ l) last)
+
+-- a text that isn't empty ends a line then
+ends_line : (text : List ℕ) → 0 < length text → (front : List ℕ) × (with_line_end text ≡ front ++ 10 ∷ [])
+ends_line text some = by (length text == 0) (slice_index text (length text - 1) == 10) refl refl
+  where
+    by : (none ends : Bool) → (length text == 0) ≡ none → (slice_index text (length text - 1) == 10) ≡ ends
+        → (front : List ℕ) × ((if none then [] else if ends then text else text ++ 10 ∷ []) ≡ front ++ 10 ∷ [])
+    by true ends none is = let zero_long : length text ≡ 0 = eqb-true (length text) 0 none in absurd (omega arith)
+    by false true none is = ends_at text some (eqb-true (slice_index text (length text - 1)) 10 is)
+    by false false none is = (text, refl)
+
+-- ---- the bytes that an opening takes
+
+-- no more than there are
+taken_within : (text : List ℕ) (opening : OpeningText) → opening_of text ≡ Ok opening → opening.consumed ≤ length text
+taken_within text opening is = by (customers_from [] (lines text)) is
+  where
+    by : (read : Result (List Customer) (ℕ × LineFault))
+        → (read >>= λ customers. Ok (record {
+          names = names_of customers;
+          balances = balances_of customers;
+          consumed = bytes_of_lines (length customers + 1) text;
+        })) ≡ Ok opening
+        → opening.consumed ≤ length text
+    by (Ok customers) e =
+        let read : OpeningText = record {
+          names = names_of customers;
+          balances = balances_of customers;
+          consumed = bytes_of_lines (length customers + 1) text;
+        } in
+        let same : read ≡ opening = cc in
+        let at : bytes_of_lines (length customers + 1) text ≡ opening.consumed = ap (λ (o : OpeningText). o.consumed) same in
+        omega (arith, at)
+    by (Err fault) e = cc
+
+-- all, if nothing is behind
+whole_takes : (text : List ℕ) (opening : OpeningText) → whole_opening_of text ≡ Ok opening
+    → (opening_of text ≡ Ok opening) × (opening.consumed ≡ length text)
+whole_takes text opening is = by (opening_of text) refl
+  where
+    behind : (found : OpeningText) → opening_of text ≡ Ok found → (rest : List ℕ) → drop found.consumed text ≡ rest
+        → with_nothing_behind found rest ≡ Ok opening → (opening_of text ≡ Ok opening) × (opening.consumed ≡ length text)
+    behind found read [] none e =
+        let same : found ≡ opening = cc in
+        let within : found.consumed ≤ length text = taken_within text found read in
+        let all : found.consumed ≡ length text = omega (arith, ap length none, length-drop found.consumed text) in
+        (cc, sym (ap (λ (o : OpeningText). o.consumed) same) ∙ all)
+    behind found read (byte ∷ rest) some e = cc
+
+    by : (read : Result OpeningText (ℕ × LineFault)) → opening_of text ≡ read
+        → (opening_of text ≡ Ok opening) × (opening.consumed ≡ length text)
+    by (Ok found) read = behind found read (drop found.consumed text) refl (sym (whole_is text (Ok found) read) ∙ is)
+    by (Err fault) read =
+        let e : whole_opening_of text ≡ in_opening (Err fault) = whole_is text (Err fault) read in
+        cc
+
+-- an empty text isn't an opening
+none_of_nothing : opening_of [] ≡ Err (1, NoBegin)
+none_of_nothing = opening_of-fault [] 1 NoBegin (ap (λ (ls : List (List ℕ)). customers_from [] ls) (lines-nil [] refl) ∙ customers_from-nil [])
+
+-- a whole opening with the end of its last line is an opening text
+pub opening_text : (input text : List ℕ) (opening : OpeningText) → text ≡ with_line_end input
+    → whole_opening_of text ≡ Ok opening → IsOpeningText text
+opening_text [] text opening same is =
+    let none : text ≡ [] = same in
+    let read : opening_of text ≡ Ok opening = (whole_takes text opening is).0 in
+    let not_read : opening_of text ≡ Err (1, NoBegin) = ap (λ (t : List ℕ). opening_of t) none ∙ none_of_nothing in
+    cc
+opening_text (byte ∷ rest) text opening same is =
+    let e = whole_takes text opening is in
+    let ended = ends_line (byte ∷ rest) (omega arith) in
+    record {
+      opening = opening;
+      read = e.0;
+      whole = e.1;
+      ended = (ended.0, same ∙ ended.1);
+    }
+
+-- ---- tests
+
+-- a test holds whose opposite doesn't
+pub not_false : (b : Bool) → not b ≡ false → b ≡ true
+not_false true is = refl
+not_false false is = cc
+
+-- a text of no bytes is empty, and one of some bytes isn't
+pub none_if_empty : (text : List ℕ) (count : ℕ) → count ≡ length text → (count == 0) ≡ true → text ≡ []
+none_if_empty text count is none = nil_from_length text (sym is ∙ eqb-true count 0 none)
+
+pub some_if_filled : (text : List ℕ) (count : ℕ) → count ≡ length text → (count == 0) ≡ false → text ≢ []
+some_if_filled text count is some none =
+    let no_byte : count ≡ 0 = is ∙ ap length none in
+    let zero : (count == 0) ≡ true = rw no_byte refl in
+    cc
