@@ -8,7 +8,7 @@ use Rattle.sb_calls.specs.declared.ask.Key.{Key}
 use Rattle.sb_calls.specs.declared.call.Call.{Call}
 use Rattle.sb_sequencer.specs.Numbering.{IsLog}
 use Rattle.sb_log.specs.Lives.{Append, AppendFails, Event, Happens, HappensAll, Life, Sync, SyncFails, newborn}
-use Rattle.sb_log.specs.LogCalls.{Appends, IsLogOf, Syncs}
+use Rattle.sb_log.specs.LogCalls.{DoesAppend, IsLogOf, DoesSync}
 use Rattle.sb_log.specs.declared.log_fault.LogFault.{LogFault}
 use Rattle.sb_log.specs.declared.log_fault.LogFault.TheVariants.{Damaged, Device, InUse, OutOfMemory}
 use Rattle.sb_ask_log.specs.Asks.{IsAsk, asks_field}
@@ -107,7 +107,7 @@ unmoved content content_new synced synced_new failed failed_new hasher hasher_ne
 
 pub append_failed : (content content_new : List ℕ) (synced synced_new : ℕ) (failed failed_new : Bool) (hasher hasher_new : Sha256) (text : List ℕ)
     (log : List (Key × Call)) (saved : ℕ) (body : List ℕ) (fault : LogFault) → IsRest log saved body
-    → (tells : Tells content synced failed hasher text (take saved log)) (m : Life) → Appends tells.l body (Err fault) m
+    → (tells : Tells content synced failed hasher text (take saved log)) (m : Life) → DoesAppend tells.l body (Err fault) m
     → IsLogOf content_new synced_new failed_new hasher_new m → failed_new ≡ true → Tells content_new synced_new failed_new hasher_new text (take saved log)
 append_failed content content_new synced synced_new failed failed_new hasher hasher_new text log saved body Device rest tells m how is ill =
     ⊎_elim
@@ -125,7 +125,7 @@ append_failed content content_new synced synced_new failed failed_new hasher has
 
 pub sync_failed : (content content_new : List ℕ) (synced synced_new : ℕ) (failed failed_new : Bool) (hasher hasher_new : Sha256) (text : List ℕ)
     (log : List (Key × Call)) (saved : ℕ) (body : List ℕ) (fault : LogFault) → IsRest log saved body
-    → (tells : Tells content synced failed hasher text (take saved log)) (m n : Life) → Happens tells.l (Append body) m → Syncs m (Err fault) n
+    → (tells : Tells content synced failed hasher text (take saved log)) (m n : Life) → Happens tells.l (Append body) m → DoesSync m (Err fault) n
     → IsLogOf content_new synced_new failed_new hasher_new n → failed_new ≡ true → Tells content_new synced_new failed_new hasher_new text (take saved log)
 sync_failed content content_new synced synced_new failed failed_new hasher hasher_new text log saved body Device rest tells m n appended how is ill =
     let given = tells.events ++ Append body ∷ [] in
