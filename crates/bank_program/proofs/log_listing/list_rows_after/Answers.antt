@@ -31,7 +31,8 @@ opening_if_whole (Ok found) rest opening is = ap Ok (nothing_behind found (rest 
 opening_if_whole (Err fault) rest opening is = cc
 
 -- the bank that has this log over this opening has the rows after it
-rows_after_log : {S K : Type 0} (keeps : K → List (Key × Call) → Type 0) (text : List ℕ) (opening : OpeningText) (log : List (Key × Call)) (old new : PrimaryOf S K) (after : Balances)
+rows_after_log : {S K : Type 0} (keeps : K → List (Key × Call) → Type 0) (text : List ℕ) (opening : OpeningText) (log : List (Key × Call))
+    (old new : PrimaryOf S K) (after : Balances)
     → opening_of text ≡ Ok opening → old.log ≡ log → old.node.names ≡ opening.names → old.node.board.opening ≡ opening.balances
     → new.log ≡ old.log → PreservesBank keeps old new
     → SameCustomers new.node.names after × (rows_of new.node.names after ≡ rows_after (calls_of new.log) (rows_of new.node.names new.node.board.opening))

@@ -11,7 +11,8 @@ use Rattle.bank_program.specs.LogListing.{ask_lines_of}
 use Rattle.bank_program.proofs.log_listing.push_asks.Goals as goal
 
 -- one more line
-one_listed : (log : List (Key × Call)) (before : ℕ) (start out longer : List ℕ) (ask : Key × Call) → before < length log → ask_of_number log (before + 1) ≡ Some ask
+one_listed : (log : List (Key × Call)) (before : ℕ) (start out longer : List ℕ) (ask : Key × Call) → before < length log → ask_of_number log
+    (before + 1) ≡ Some ask
     → out ≡ start ++ unlines (ask_lines_of (take before log)) → longer ≡ (out ++ ask_line (record { key = Some ask.0; call = ask.1 })) ++ 10 ∷ []
     → longer ≡ start ++ unlines (ask_lines_of (take (before + 1) log))
 one_listed log before start out longer ask lt is so_far grown =

@@ -11,7 +11,8 @@ amalgamated : {E : Type 0} (done : Result (Unit {0}) E) (call : Call) (from to o
     → first ≡ out ++ codes "amalgamate " → from_text ≡ from → second ≡ (first ++ from_text) ++ 32 ∷ [] → to_text ≡ to
     → third ≡ (if is_ok done then second ++ to_text else second) → OnOk done (third ≡ out ++ call_line call)
 amalgamated (Ok done) call from to out first second third from_text to_text is a f b t c =
-    c ∙ ap (λ (l : List ℕ). second ++ l) t ∙ ap (λ (l : List ℕ). l ++ to) (b ∙ ap (λ (l : List ℕ). (first ++ l) ++ 32 ∷ []) f ∙ ap (λ (l : List ℕ). (l ++ from) ++ 32 ∷ []) a)
+    c ∙ ap (λ (l : List ℕ). second ++ l) t ∙ ap (λ (l : List ℕ). l ++ to) (b ∙ ap (λ (l : List ℕ). (first ++ l) ++ 32 ∷ []) f ∙ ap (λ (l : List ℕ).
+    (l ++ from) ++ 32 ∷ []) a)
     ∙ together out (codes "amalgamate ") from to ∙ ap (λ (k : Call). out ++ call_line k) (sym is)
   where
     together : (out verb from to : List ℕ) → (((out ++ verb) ++ from) ++ 32 ∷ []) ++ to ≡ out ++ (verb ++ (from ++ (32 ∷ to)))
