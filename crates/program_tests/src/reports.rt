@@ -1,7 +1,8 @@
 //! How faults are reported.
-use bank_program::{ProgramFault, ServeFault, told};
+use bank_program::{ListFault, ProgramFault, ServeFault, told};
 use bank_server::{InputFault, RunFault};
 use sb_calls::CallFault;
+use sb_log::LogFault;
 use schedule_player::ScheduleFault;
 use std::alloc::Global;
 use std::process::Abort;
@@ -79,10 +80,22 @@ fn faults_of_a_log_told(rt: HostRuntime) {
         behind: 82,
     };
     for (fault, status, text) in [
-        (ListFault::Log(damaged), 1, "smallbank: log: damaged at byte 105"),
+        (
+            ListFault::Log(damaged),
+            1,
+            "smallbank: log: damaged at byte 105",
+        ),
         (ListFault::NoLog, 1, "smallbank: log: no log"),
-        (ListFault::Log(LogFault::Device), 3, "smallbank: log: device"),
-        (ListFault::Rest, 3, "smallbank: log: the rest can't be written"),
+        (
+            ListFault::Log(LogFault::Device),
+            3,
+            "smallbank: log: device",
+        ),
+        (
+            ListFault::Rest,
+            3,
+            "smallbank: log: the rest can't be written",
+        ),
         (ListFault::Device, 3, "smallbank: device"),
     ] {
         expect_told(&rt, rt.alloc(), ProgramFault::Log(fault), status, text);

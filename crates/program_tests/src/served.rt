@@ -1,7 +1,6 @@
 //! Banks that are served to clients in memory.
 ghost use Rattle.std.specs.Prelude.{◌≡◌, ◌≤◌, None, []};
 ghost use Rattle.bank_server.specs.Execution.{HasNoEntries};
-ghost use Rattle.bank_server.specs.Primary.{HasWholeLog};
 
 use crate::clients::{Client, Manner, TestListener, Transcript};
 use bank_program::{Plan, ServeFault, Server, serve, serve_beside};

@@ -1,5 +1,5 @@
 //! The program's words.
-use bank_program::{Plan, Words, read_words, refuse_bytes};
+use bank_program::{Listing, LogAction, Plan, Words, read_words, refuse_bytes};
 use clap::Error;
 use std::alloc::Global;
 use std::process::Abort;
@@ -148,7 +148,10 @@ fn words_of_a_server_with_a_log(rt: HostRuntime) {
     };
     for (words, plan) in [
         (["serve", "--port=0", "--log", "bank", "--nodes=1"], endless),
-        (["serve", "--log=bank", "--port", "0", "--sessions=1000000"], many),
+        (
+            ["serve", "--log=bank", "--port", "0", "--sessions=1000000"],
+            many,
+        ),
     ] {
         let read = Words::Serve {
             port: 0,

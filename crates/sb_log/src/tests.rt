@@ -31,7 +31,7 @@ const ENDS: [usize; 3] = [105, 163, 227];
 // Joins the bodies that are replayed. One that is `no` is refused.
 #[derive(Drop)]
 struct Bodies {
-    body_bytes: Vec<u8>,
+    joined: Vec<u8>,
     count: usize,
 }
 
@@ -56,7 +56,7 @@ impl Replay for Bodies {
 
 fn none(alloc: Global) -> Bodies {
     Bodies {
-        body_bytes: Vec::new(alloc),
+        joined: Vec::new(alloc),
         count: 0,
     }
 }
@@ -81,13 +81,13 @@ fn logged(alloc: Global, synced: usize) -> Result<MemoryFile, Fail> {
     Ok(log.into_file())
 }
 
-// The first bodies, body_bytes.
+// The first bodies, joined.
 fn first(alloc: Global, count: usize) -> Result<Vec<u8>, Fail> {
-    let mut body_bytes = Vec::new(alloc);
+    let mut joined = Vec::new(alloc);
     for body in BODIES.iter().take(count) {
-        body_bytes.extend_from_slice(body)?;
+        joined.extend_from_slice(body)?;
     }
-    Ok(body_bytes)
+    Ok(joined)
 }
 
 // A file of these bytes.
