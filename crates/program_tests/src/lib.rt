@@ -7,6 +7,8 @@ mod clients;
 #[cfg(test)]
 mod hostile;
 #[cfg(test)]
+mod logs;
+#[cfg(test)]
 mod openings;
 #[cfg(test)]
 mod reports;

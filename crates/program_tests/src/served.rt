@@ -15,14 +15,14 @@ use std::sync::Wait;
 use std::thread::Threads;
 use std::time::Clock;
 
-const OPENING: &[u8] = b"alice 100.00 50.00\nbob 0.00 20.00\nbegin\n";
+pub(crate) const OPENING: &[u8] = b"alice 100.00 50.00\nbob 0.00 20.00\nbegin\n";
 
 // Client 7 asks for alice's balance, deposits 5.00 for bob, and gets the outcomes of both.
-const ASKED: &[u8] = b"\x00\x10\x01\0\0\0\x07\0\0\0\x01\x01\x05alice\
+pub(crate) const ASKED: &[u8] = b"\x00\x10\x01\0\0\0\x07\0\0\0\x01\x01\x05alice\
 \x00\x16\x01\0\0\0\x07\0\0\0\x02\x02\x03bob\0\0\0\0\0\0\x01\xf4\
 \x00\x01\x06";
 
-const TOLD: &[u8] = b"\x00\x13\x05\0\0\0\x07\0\0\0\x01\0\0\0\0\0\0\0\0\x3a\x98\
+pub(crate) const TOLD: &[u8] = b"\x00\x13\x05\0\0\0\x07\0\0\0\x01\0\0\0\0\0\0\0\0\x3a\x98\
 \x00\x13\x05\0\0\0\x07\0\0\0\x02\0\x01\0\0\0\0\0\0\0\0";
 
 // The deposit alone, whose outcome nobody gets.
@@ -31,9 +31,9 @@ const DEPOSIT: &[u8] = b"\x00\x16\x01\0\0\0\x07\0\0\0\x02\x02\x03bob\0\0\0\0\0\0
 // A flush, and an acknowledgement, which no client may send.
 const ACK: &[u8] = b"\x00\x01\x06\x00\x0a\x03\x01\0\0\0\0\0\0\0\x02";
 
-const GARBAGE: &[u8] = b"GET / HTTP/1.1\r\n";
+pub(crate) const GARBAGE: &[u8] = b"GET / HTTP/1.1\r\n";
 
-fn plain(sent: &[u8]) -> Client<'_> {
+pub(crate) fn plain(sent: &[u8]) -> Client<'_> {
     let manner = Manner::Plain;
     Client { sent, manner }
 }

@@ -1,0 +1,146 @@
+//! Banks on a log, and what is listed of it.
+use crate::clients::{Client, TestListener, Transcript};
+use crate::served::{ASKED, GARBAGE, OPENING, TOLD, plain};
+use bank_program::{
+    ListFault, Listing, OpenedBank, Plan, ServeFault, ServedBank, Server, list_log, open_on_file,
+    serve_bank,
+};
+use sb_checkpoint::MemoryStore;
+use sb_log::{LogFile, MemoryFile};
+use std::alloc::Global;
+use std::process::Abort;
+use std::sync::Wait;
+use std::thread::Threads;
+use std::time::Clock;
+
+// The line of the log with the opening alone, and of the one with both asks.
+const NONE: &str = "log 0 595dbe6f3bb5264d4281e804c9dd6237b3a412bc4c3c9c66864de7221be29df0\n";
+
+const BOTH: &str = "log 2 dcc9a5d7b14b113ef7fc29f5a7772797163cf36232161f49371e187beb1b1eff\n";
+
+const AFTER: &str = "alice 100.00 50.00\nbob 0.00 25.00\n";
+
+// A file of these bytes.
+fn file_of(rt: &impl Abort, alloc: Global, bytes: &[u8]) -> MemoryFile {
+    let mut file = MemoryFile::new(alloc);
+    file.append(bytes).expect(rt, "a file");
+    file
+}
+
+// Serves a bank on a file to these clients, and compares what they get and what is printed between
+// the port and the rows. Answers the file's bytes.
+fn serve_on(
+    rt: &(impl Abort + Threads + Wait + Clock + Sync),
+    alloc: Global,
+    file: MemoryFile,
+    input: &[u8],
+    clients: &[Client],
+    printed: &[&str],
+) -> Vec<u8> {
+    let all = Transcript::new(alloc);
+    let listener = TestListener::of(alloc, clients, &all).expect(rt, "a listener");
+    let opened = open_on_file(alloc, file, input, MemoryStore::new(alloc)).expect(rt, "a bank");
+    let OpenedBank { primary, .. } = opened;
+    let mut written: Vec<u8> = Vec::new(alloc);
+    let plan = Plan {
+        sessions: clients.len(),
+        nodes: 2,
+        workers: 0,
+        saves: false,
+        patience: None,
+    };
+    let server = Server {
+        alloc,
+        plan,
+        listener,
+        primary,
+        writer: &mut written,
+    };
+    let ServedBank { primary, .. } = serve_bank(rt, server).expect(rt, "served");
+    let mut expected: Vec<u8> = Vec::new(alloc);
+    for part in printed {
+        expected
+            .extend_from_slice(part.as_bytes())
+            .expect(rt, "room");
+    }
+    assert!(rt; written.as_slice() == expected.as_slice());
+    let bytes = all.bytes.into_inner();
+    assert!(rt; bytes.as_slice() == TOLD);
+    Vec::from_slice(alloc, primary.keeper().file().bytes()).expect(rt, "room")
+}
+
+// The file of a bank that was served to a client.
+fn kept(rt: &(impl Abort + Threads + Wait + Clock + Sync), alloc: Global) -> Vec<u8> {
+    let printed = [
+        NONE,
+        "listening 127.0.0.1:4000\nsession 1 ok\n",
+        BOTH,
+        AFTER,
+        "total 175.00\n",
+    ];
+    let file = MemoryFile::new(alloc);
+    serve_on(rt, alloc, file, OPENING, &[plain(ASKED)], &printed)
+}
+
+#[test]
+fn a_bank_goes_on_from_its_log(rt: HostRuntime) {
+    let alloc = rt.alloc();
+    let before = kept(&rt, alloc);
+    let printed = [
+        BOTH,
+        "listening 127.0.0.1:4000\nsession 1 ok\nsession 2 fault 1\n",
+        BOTH,
+        AFTER,
+        "total 175.00\n",
+    ];
+    for input in [b"".as_slice(), OPENING, &OPENING[..OPENING.len() - 1]] {
+        let file = file_of(&rt, alloc, &before);
+        let clients = [plain(ASKED), plain(GARBAGE)];
+        let after = serve_on(&rt, alloc, file, input, &clients, &printed);
+        // Both asks are repeats.
+        assert!(rt; after.as_slice() == before.as_slice());
+    }
+}
+
+#[test]
+fn a_log_of_another_opening(rt: HostRuntime) {
+    let alloc = rt.alloc();
+    let file = file_of(&rt, alloc, &kept(&rt, alloc));
+    let other = b"alice 100.00 50.00\nbob 0.00 20.01\nbegin\n";
+    let opened = open_on_file(alloc, file, other, MemoryStore::new(alloc));
+    assert!(rt; opened.err() == Some(ServeFault::AnotherOpening));
+}
+
+// What is listed of a file.
+fn listed(
+    rt: &impl Abort,
+    alloc: Global,
+    bytes: &[u8],
+    listing: Listing,
+) -> (Result<(), ListFault>, Vec<u8>) {
+    let mut file = file_of(rt, alloc, bytes);
+    let mut written = Vec::new(alloc);
+    let done = list_log(alloc, &mut file, listing, &mut written);
+    (done, written)
+}
+
+#[test]
+fn what_is_listed_of_a_log(rt: HostRuntime) {
+    let alloc = rt.alloc();
+    let bytes = kept(&rt, alloc);
+    let asks = "alice 100.00 50.00\nbob 0.00 20.00\nbegin\n\
+        ask 7 1 balance alice\nask 7 2 deposit bob 5.00\n";
+    let rows = "alice 100.00 50.00\nbob 0.00 25.00\nbegin\n";
+    for (listing, text) in [
+        (Listing::Asks, asks),
+        (Listing::Rows, rows),
+        (Listing::Check, BOTH),
+    ] {
+        let (done, written) = listed(&rt, alloc, &bytes, listing);
+        assert!(rt; done.is_ok());
+        assert!(rt; written.as_slice() == text.as_bytes());
+        let (done, written) = listed(&rt, alloc, &bytes[..60], listing);
+        assert!(rt; done == Err(ListFault::NoLog));
+        assert!(rt; written.is_empty());
+    }
+}
