@@ -30,7 +30,7 @@ pub record AreBatchesOf (batches : List (List (Key × Call))) (log : List (Key �
 abbrev pub bodies_of : List ℕ → List (List (Key × Call)) → List (List ℕ)
 bodies_of text batches = (log_magic ++ text) ∷ map asks_field batches
 
--- all its bodies, body_bytes, however the asks are parted into batches
+-- the bytes of all its bodies, however the asks are parted into batches
 abbrev pub log_bytes : List ℕ → List (Key × Call) → List ℕ
 log_bytes text log = log_magic ++ text ++ asks_field log
 

@@ -13,7 +13,7 @@ unfoldable pub size_field : ℕ → List ℕ
 size_field size = to_be_bytes w32 size ++ to_be_bytes w32 (2 ^ 32 - 1 - size)
 
 -- what stands before a body: its length with its complement, and the digest of all bodies up to and
--- with this one; `before` are the earlier bodies, body_bytes
+-- with this one; `before` are the bytes of the earlier bodies
 unfoldable pub head : List ℕ → List ℕ → List ℕ
 head before body = size_field (length body) ++ sha256 (before ++ body)
 
@@ -30,6 +30,6 @@ records_after before (body ∷ bodies) = record_after before body ++ records_aft
 abbrev pub records : List (List ℕ) → List ℕ
 records bodies = records_after [] bodies
 
--- these bodies, body_bytes
+-- the bytes of these bodies, in order
 abbrev pub body_bytes : List (List ℕ) → List ℕ
 body_bytes bodies = flat_map (λ body. body) bodies

@@ -11,7 +11,7 @@ abbrev pub ReplaysAll : {T : Type 0} → (T → List ℕ → T → Type 0) → T
 ReplaysAll replays old [] new = new ≡ old
 ReplaysAll {T} replays old (body ∷ bodies) new = (mid : T) × replays old body mid × ReplaysAll replays mid bodies new
 
--- some bodies were replayed, in order, and the hasher holds just these, body_bytes
+-- some bodies were replayed, in order, and the hasher holds just their bytes
 pub record HoldsReplayed {T : Type 0} (replays : T → List ℕ → T → Type 0) (old : T) (hasher : Sha256)
     (new : T) : Type 0 where
   pub bodies : List (List ℕ)

@@ -62,14 +62,14 @@ impl<F: LogFile> DurableLog<F> {
         file
     }
 
-    /// The hasher of all bodies, body_bytes.
+    /// The hasher of the bytes of all bodies.
     pub fn hasher(&self) -> &Sha256
         ensures { result.now ≡ self.now.hasher }
     {
         &self.hasher
     }
 
-    /// The digest of all bodies, body_bytes.
+    /// The digest of the bytes of all bodies.
     pub fn digest(&self) -> [u8; 32]
         ensures { (bodies : List ℕ) → Holds256 self.now.hasher bodies → result ≡ sha256 bodies }
     {

@@ -8,6 +8,6 @@ pub struct LogEnd {
     pub records: usize,
     /// How many bytes follow them, of a record that isn't whole or of zeros.
     pub torn: usize,
-    /// The hasher of all bodies, body_bytes.
+    /// The hasher of the bytes of all bodies.
     pub hasher: Sha256,
 }
