@@ -1,4 +1,6 @@
 //! Sessions whose log is kept, and keepers that fail.
+ghost use Rattle.std.specs.Prelude.{None, true};
+
 use crate::bank::{OPENING, expect, expect_bytes, joined};
 use crate::wire::{BALANCE, DEPOSIT, DONE, ENTRY, FLUSH, SHOWN};
 use bank_server::{Primary, SessionFault, serve_session};
@@ -23,6 +25,10 @@ struct CountingKeeper {
 impl Keeper for CountingKeeper {
     ghost Keeps = { λ keeper asks. Unit {0} };
 
+    ghost opening = { λ keeper. None };
+
+    ghost fails = { true };
+
     fn keep(&mut self, log: &Sequencer) -> Result<(), LogFault> {
         if self.left == 0 {
             return Err(LogFault::Device);
@@ -30,6 +36,10 @@ impl Keeper for CountingKeeper {
         self.left -= 1;
         self.kept = log.length();
         Ok(())
+    }
+
+    fn digest(&self) -> Option<[u8; 32]> {
+        None
     }
 }
 
