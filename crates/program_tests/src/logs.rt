@@ -128,6 +128,8 @@ fn listed(
 fn what_is_listed_of_a_log(rt: HostRuntime) {
     let alloc = rt.alloc();
     let bytes = kept(&rt, alloc);
+    // Less than its first record.
+    let torn = bytes.get(..60).expect(&rt, "60 bytes");
     let asks = "alice 100.00 50.00\nbob 0.00 20.00\nbegin\n\
         ask 7 1 balance alice\nask 7 2 deposit bob 5.00\n";
     let rows = "alice 100.00 50.00\nbob 0.00 25.00\nbegin\n";
@@ -139,7 +141,7 @@ fn what_is_listed_of_a_log(rt: HostRuntime) {
         let (done, written) = listed(&rt, alloc, &bytes, listing);
         assert!(rt; done.is_ok());
         assert!(rt; written.as_slice() == text.as_bytes());
-        let (done, written) = listed(&rt, alloc, &bytes[..60], listing);
+        let (done, written) = listed(&rt, alloc, torn, listing);
         assert!(rt; done == Err(ListFault::NoLog));
         assert!(rt; written.is_empty());
     }
