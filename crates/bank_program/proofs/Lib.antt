@@ -1,7 +1,7 @@
 pub mod BankAfter
 pub mod EndRows
 pub mod GoneCrews
-pub mod OpenedBanks
+pub mod FoundBanks
 pub mod OptionSearch
 pub mod OptionValues
 pub mod PrintedLines

@@ -85,10 +85,10 @@ module _ {T : Type 0} (sends : T → Option (List ℕ)) where
   -- the port, the sessions, and the rows of the bank that is left
   pub serves_bank : {S K : Type 0} (opening : K → Option (List ℕ)) (first opened last : PrimaryOf S K) (count : ℕ) (at : Option ℕ)
       (coming left : Option (List T)) (a b c d e f : Option (List ℕ))
-      → IsSameBank first last → opened.log ≡ first.log → PrintsLog opening opened a b → PrintsPort at b c
+      → IsSameBank first last → opening opened.keeper ≡ opening first.keeper → opening last.keeper ≡ opening first.keeper → opened.log ≡ first.log → PrintsLog opening opened a b → PrintsPort at b c
       → ServesAll sends count coming left opened.log last.log c d → PrintsLog opening last d e → PrintsRows last e f
-      → ServesBank sends first.node.names first.node.board.opening count at coming first.log last.log (opening opened.keeper) (opening last.keeper) a f
-  serves_bank opening first opened last count at coming left a b c d e f same same_log first_line (port, listens, start) served last_line rows =
+      → ServesBank sends first.node.names first.node.board.opening count at coming first.log last.log (opening first.keeper) a f
+  serves_bank opening first opened last count at coming left a b c d e f same text text_then same_log first_line (port, listens, start) served last_line rows =
       let same_lines : end_lines last.node.names last.node.board.opening last.log ≡ end_lines first.node.names first.node.board.opening last.log =
       ap (λ (names : List (List ℕ)). end_lines names last.node.board.opening last.log) same.names
       ∙ ap (λ (opening : Balances). end_lines first.node.names opening last.log) same.opening in
@@ -103,11 +103,13 @@ module _ {T : Type 0} (sends : T → Option (List ℕ)) where
         heard = subst (λ (log : Log). ServesFirst sends coming left log served.ends last.log) same_log served.heard;
         printed =
             let sessions = session_lines 1 served.ends in
-            let lines = log_lines (opening last.keeper) last.log in
+            let lines = log_lines (opening first.keeper) last.log in
             let rest = PrintsLines-trans b e f ((port_line port ∷ sessions) ++ lines) ended
             (PrintsLines-trans b d e (port_line port ∷ sessions) lines
-            (PrintsLines-trans b c d (port_line port ∷ []) sessions start served.printed) last_line)
+            (PrintsLines-trans b c d (port_line port ∷ []) sessions start served.printed)
+            (subst (λ (text : Option (List ℕ)). PrintsLines (log_lines text last.log) d e) text_then last_line))
             (subst (λ (ls : List (List ℕ)). PrintsLines ls e f) same_lines rows) in
-            PrintsLines-trans a b f (log_lines (opening opened.keeper) first.log) (((port_line port ∷ sessions) ++ lines) ++ ended)
-            (subst (λ (log : Log). PrintsLines (log_lines (opening opened.keeper) log) a b) same_log first_line) rest;
+            PrintsLines-trans a b f (log_lines (opening first.keeper) first.log) (((port_line port ∷ sessions) ++ lines) ++ ended)
+            (subst (λ (text : Option (List ℕ)). PrintsLines (log_lines text first.log) a b) text
+            (subst (λ (log : Log). PrintsLines (log_lines (opening opened.keeper) log) a b) same_log first_line)) rest;
       }

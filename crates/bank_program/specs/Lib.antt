@@ -1,4 +1,5 @@
 pub mod Faults
+pub mod FoundBank
 pub mod ListFaults
 pub mod LogListing
 pub mod OpenedBank

@@ -68,7 +68,7 @@ end_lines names opening log = row_lines names (rows_after (calls_of log) (rows_o
 -- log's line again, and the rows after the log, executed one by one
 pub record ServesBank {T : Type 0} (sends : T → Option (List ℕ)) (names : List (List ℕ)) (opening : Balances)
     (count : ℕ) (at : Option ℕ) (coming : Option (List T)) (before log : List (Key × Call))
-    (text text_then : Option (List ℕ)) (old new : Option (List ℕ)) : Type 0 where
+    (text : Option (List ℕ)) (old new : Option (List ℕ)) : Type 0 where
   pub port : ℕ
   pub listens : IsPortOf at port
   pub ends : List End
@@ -77,4 +77,4 @@ pub record ServesBank {T : Type 0} (sends : T → Option (List ℕ)) (names : Li
   pub left : Option (List T)
   pub heard : ServesFirst sends coming left before ends log
   pub printed : PrintsLines (log_lines text before ++ (port_line port ∷ session_lines 1 ends
-      ++ log_lines text_then log ++ end_lines names opening log)) old new
+      ++ log_lines text log ++ end_lines names opening log)) old new

@@ -15,23 +15,24 @@ pub record IsSameBank {S K : Type 0} (old new : PrimaryOf S K) : Type 0 where
   pub opening : new.node.board.opening ≡ old.node.board.opening
 
 -- the same bank after this many sessions: its log has one number for each key, node 0 has executed
--- all of it, all of it is kept, and its store is as `IsStoreAfter` says
-pub record IsBankAfter {S K : Type 0} (model : StoreModel S) (keeps : K → List (Key × Call) → Type 0) (saves : Bool)
-    (sessions : ℕ) (old new : PrimaryOf S K) : Type 0 where
+-- all of it, all of it is kept, in a file of the same opening, and its store is as `IsStoreAfter` says
+pub record IsBankAfter {S K : Type 0} (model : StoreModel S) (keeps : K → List (Key × Call) → Type 0)
+    (text_of : K → Option (List ℕ)) (saves : Bool) (sessions : ℕ) (old new : PrimaryOf S K) : Type 0 where
   pub bank : IsSameBank old new
   pub one_each : IsLog new.log
   pub all : HasWholeLog new
   pub kept_log : keeps new.keeper new.log
+  pub text : text_of new.keeper ≡ text_of old.keeper
   pub kept : IsStoreAfter model saves sessions old.node.store new.node
 
 -- a bank is served by this plan: first its log is executed and kept; then its output and its log are as
--- `ServesBank` says, with the openings of its keeper, and what is left of it is as `IsBankAfter` says
+-- `ServesBank` says, with the opening of its file, and what is left of it is as `IsBankAfter` says
 pub record ServesByPlan {T S K : Type 0} (sends : T → Option (List ℕ)) (model : StoreModel S)
-    (keeps : K → List (Key × Call) → Type 0) (opening : K → Option (List ℕ)) (plan : Plan) (at : Option ℕ)
+    (keeps : K → List (Key × Call) → Type 0) (text_of : K → Option (List ℕ)) (plan : Plan) (at : Option ℕ)
     (coming : Option (List T)) (before after : PrimaryOf S K) (old new : Option (List ℕ)) : Type 0 where
   pub opened : PrimaryOf S K
-  pub at_first : IsBankAfter model keeps false 1 before opened
+  pub at_first : IsBankAfter model keeps text_of false 1 before opened
   pub same_log : opened.log ≡ before.log
   pub bank : ServesBank sends before.node.names before.node.board.opening plan.sessions at coming before.log after.log
-      (opening opened.keeper) (opening after.keeper) old new
-  pub left : IsBankAfter model keeps plan.saves plan.sessions before after
+      (text_of before.keeper) old new
+  pub left : IsBankAfter model keeps text_of plan.saves plan.sessions before after

@@ -1,3 +1,4 @@
+pub mod FindSteps
 pub mod ServeSteps
 pub mod StepFaults
 pub mod WordValues

@@ -37,10 +37,10 @@ where
     // What the client sent was handled, and its asks are in the log.
     ensures session { IfSome (T.remaining stream.old) (λ sent.
         IsSession primary.old.log sent result primary.new.log) }
-    ensures bank { PreservesBank K.Keeps primary.old primary.new }
+    ensures bank { PreservesBank K.Keeps K.opening K.has_failed primary.old primary.new }
     ensures none_out { C.keeps ≡ false → HasNoneOut primary.old.node.board → HasNoneOut primary.new.node.board }
     ensures crew_lost { IfErr result (LosesCrew C.keeps primary.old.node.board) }
-    ensures log_lost { IfErr result (LosesLog K.fails) }
+    ensures log_lost { IfErr result (LosesLog K.fails (K.has_failed primary.new.keeper)) }
 {
     let Ok(mut writer) = set_up(&*stream, patience) else {
         return Err(SessionFault::Device);

@@ -5,6 +5,7 @@
 mod client;
 mod command;
 mod fault;
+mod found_bank;
 mod leaving;
 mod list_fault;
 mod listener;
@@ -26,11 +27,12 @@ mod standard_streams;
 mod words;
 
 pub use fault::ProgramFault;
+pub use found_bank::{FoundBank, find_bank};
 pub use list_fault::ListFault;
 pub use listener::{ClientListener, SocketListener};
 pub use listening::listen;
 pub use log_listing::{Listing, list_log};
-pub use opened_bank::{OpenedBank, open_on_file};
+pub use opened_bank::open_on_file;
 pub use opening::whole_opening;
 pub use program_log::log_program;
 pub use program_server::serve_program;

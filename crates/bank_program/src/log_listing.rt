@@ -24,7 +24,7 @@ use bank_server::Primary;
 use cown_workers::InlineCrew;
 use itoa::Buffer;
 use sb_amount::{Cents, print};
-use sb_ask_log::{NoKeeper, RecoveredLog, read_asks};
+use sb_ask_log::{NoKeeper, LogInFile, read_asks};
 use sb_calls::{Call, Key};
 use sb_checkpoint::MemoryStore;
 use sb_log::LogFile;
@@ -84,7 +84,7 @@ pub fn list_log<F: LogFile, W: Write>(
 }
 
 // The opening text, and a line for each ask.
-fn list_asks(alloc: Global, found: &RecoveredLog) -> Result<Vec<u8>, AllocError>
+fn list_asks(alloc: Global, found: &LogInFile) -> Result<Vec<u8>, AllocError>
     ensures { IfOk result (λ listed. listed.items
         ≡ found.now.text.items ++ unlines (ask_lines_of found.now.log.value.log)) }
 {
@@ -163,13 +163,13 @@ fn push_amount(verb: &[u8], name: &Name, amount: Cents, out: &mut Vec<u8>) -> Re
 }
 
 // The rows after the log, as an opening.
-fn list_rows_after(alloc: Global, found: RecoveredLog) -> Result<Vec<u8>, ListFault>
+fn list_rows_after(alloc: Global, found: LogInFile) -> Result<Vec<u8>, ListFault>
     ensures listed { IfOk result (λ listed. (names : List (List ℕ)) × (after : AnyBalances)
         × AreRowsAfter found.text.items found.log.value.log names after
         × (listed.items ≡ unlines (opening_lines (customers_of names after)))) }
     ensures fault { IfErr result (λ fault. fault ≡ ListFault.OutOfMemory) }
 {
-    let RecoveredLog { text, log, .. } = found;
+    let LogInFile { text, log, .. } = found;
     let Ok(opening) = whole_opening(alloc, &text) else {
         return Err(ListFault::OutOfMemory);
     };
@@ -188,7 +188,7 @@ fn list_rows_after(alloc: Global, found: RecoveredLog) -> Result<Vec<u8>, ListFa
 }
 
 // The line of the log: the number of its calls, and its digest.
-fn check_line(alloc: Global, found: &RecoveredLog) -> Result<Vec<u8>, AllocError>
+fn check_line(alloc: Global, found: &LogInFile) -> Result<Vec<u8>, AllocError>
     requires { Holds256 found.now.end.hasher (log_bytes found.now.text.items found.now.log.value.log) }
     ensures { IfOk result (λ line. line.items
         ≡ unlines (log_lines (Some found.now.text.items) found.now.log.value.log)) }

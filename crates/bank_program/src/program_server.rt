@@ -7,16 +7,18 @@ ghost use Rattle.bank_program.specs.inner.StepFaults.{IsOpenFault, IsOpeningFaul
 use crate::listener::SocketListener;
 use crate::listening::listen;
 use crate::log_report::{CutReport, LogReport};
-use crate::opened_bank::{OpenedBank, open_on_file};
+use crate::found_bank::find_bank;
+use crate::opened_bank::open_on_file;
 use crate::opening::whole_opening;
 use crate::program_log::LOG;
 use crate::serve_fault::ServeFault;
 use crate::server::Server;
 use crate::serving::{Plan, serve, serve_bank};
 use crate::standard_streams::are_open;
-use bank_server::RunFault;
+use bank_server::{Primary, RunFault};
 use cown_bench::WORKERS;
 use sb_checkpoint::{CheckpointStore, FileStore, FileWithSpare, FolderFile};
+use sb_ask_log::AskLog;
 use sb_log::{Reason, SystemFile};
 use sb_rows::Opening;
 use sb_sequencer::REPLICAS;
@@ -28,7 +30,7 @@ use std::thread::Threads;
 use std::time::Clock;
 
 // A bank on a log's file of the system.
-type SystemBank<'a> = OpenedBank<FileStore<FolderFile<HostRuntime>>, SystemFile<'a>>;
+type SystemBank<'a> = Primary<FileStore<FolderFile<HostRuntime>>, AskLog<SystemFile<'a>>>;
 
 // The file name of node 0's checkpoint.
 const CHECKPOINT: &str = "node0.ckpt";
@@ -104,22 +106,23 @@ fn open_on_log<'a>(
     log: &str,
     reason: &'a Reason,
 ) -> Result<Box<SystemBank<'a>>, ServeFault>
-    ensures no_entries { IfOk result (λ opened. HasNoEntries opened.value.primary.node.board) }
+    ensures no_entries { IfOk result (λ opened. HasNoEntries opened.value.node.board) }
     ensures fault { IfErr result (IsOpenFault (is_some folder.entry)) }
 {
     let alloc = rt.alloc();
     if !are_open(rt) {
         return Err(ServeFault::Run(RunFault::Device));
     }
-    let file = SystemFile::open(rt, log, LOG, reason)?;
+    let mut file = SystemFile::open(rt, log, LOG, reason)?;
     let input = read_all(alloc, &mut rt.stdin())?;
     let store = store_of(rt, folder)?;
-    let opened = open_on_file(alloc, file, &input, store)?;
-    if opened.cut > 0 {
-        let report = CutReport { bytes: opened.cut };
+    let found = find_bank(alloc, &mut file, &input)?;
+    if found.cut > 0 {
+        let report = CutReport { bytes: found.cut };
         let _ = eprintln!(rt; "{report}");
     }
-    Ok(Box::new(alloc, opened)?)
+    let primary = open_on_file(alloc, file, found, store)?;
+    Ok(Box::new(alloc, primary)?)
 }
 
 // Serves a bank that was opened, at a port.
@@ -134,18 +137,17 @@ where
     H: Threads + Wait + Clock + Sync + Net,
     requires nodes { plan.nodes ≤ REPLICAS }
     requires workers { plan.workers ≤ WORKERS }
-    requires no_entries { HasNoEntries opened.value.primary.node.board }
+    requires no_entries { HasNoEntries opened.value.node.board }
     ensures fault { IfErr result (IsProgramFault port plan false true) }
 {
     let listener = SocketListener::new(threads, listen(threads, port)?);
-    let OpenedBank { primary, .. } = Box::into_inner(opened);
     serve_bank(
         threads,
         Server {
             alloc: rt.alloc(),
             plan,
             listener,
-            primary,
+            primary: Box::into_inner(opened),
             writer: rt.stdout(),
         },
     )?;

@@ -132,7 +132,7 @@ where
         ensures served { OnOk result (ServesAll D.Stream.remaining self.old.plan.sessions
             (D.coming self.old.listener) (D.coming self.new.listener) self.old.primary.log self.new.primary.log
             (W.contents self.old.writer) (W.contents self.new.writer)) }
-        ensures bank_after { OnOk result (IsBankAfter S.model K.Keeps self.old.plan.saves self.old.plan.sessions
+        ensures bank_after { OnOk result (IsBankAfter S.model K.Keeps K.opening self.old.plan.saves self.old.plan.sessions
             self.old.primary self.new.primary) }
         ensures nodes { followers.new.nodes ≡ followers.old.nodes }
         ensures plan { self.new.plan ≡ self.old.plan }
@@ -159,7 +159,7 @@ where
         ensures served { OnOk result (ServesNext D.Stream.remaining number
             (D.coming self.old.listener) (D.coming self.new.listener) self.old.primary.log self.new.primary.log
             (W.contents self.old.writer) (W.contents self.new.writer)) }
-        ensures bank_after { OnOk result (IsBankAfter S.model K.Keeps self.old.plan.saves 1
+        ensures bank_after { OnOk result (IsBankAfter S.model K.Keeps K.opening self.old.plan.saves 1
             self.old.primary self.new.primary) }
         ensures nodes { followers.new.nodes ≡ followers.old.nodes }
         ensures plan { self.new.plan ≡ self.old.plan }

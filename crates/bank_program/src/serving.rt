@@ -84,7 +84,7 @@ where
     requires workers { plan.workers ≤ WORKERS }
     // The log is that of the clients' sessions, and the printed rows are those after it.
     ensures served { IfOk result (λ bank. ServesBank D.Stream.remaining opening.directory
-        opening.columns plan.sessions (D.listens_at listener) (D.coming listener) [] bank.primary.log None None
+        opening.columns plan.sessions (D.listens_at listener) (D.coming listener) [] bank.primary.log None
         (W.contents writer) (W.contents bank.writer)) }
     ensures one_each { IfOk result (λ bank. IsLog bank.primary.log) }
     ensures whole_log { IfOk result (λ bank. HasWholeLog bank.primary) }

@@ -27,7 +27,7 @@ pub(crate) fn finish_session<R: Wait, S: CheckpointStore, K: Keeper, C: Crew>(
     crew: &mut C,
 ) -> Result<(), ServeFault>
     ensures log { primary.new.log ≡ primary.old.log }
-    ensures bank_after { OnOk result (IsBankAfter S.model K.Keeps saves 1 primary.old primary.new) }
+    ensures bank_after { OnOk result (IsBankAfter S.model K.Keeps K.opening saves 1 primary.old primary.new) }
     // The whole log was sent to the followers.
     ensures sent { OnOk result (length primary.new.log ≤ followers.new.sent) }
     ensures nodes { followers.new.nodes ≡ followers.old.nodes }
@@ -44,6 +44,7 @@ pub(crate) fn finish_session<R: Wait, S: CheckpointStore, K: Keeper, C: Crew>(
 fn keep<S: CheckpointStore, K: Keeper>(primary: &mut Primary<S, K>) -> Result<(), ServeFault>
     ensures kept { OnOk result (K.Keeps primary.new.keeper primary.new.log) }
     ensures unchanged { primary.new ≡ record primary.old { keeper = primary.new.keeper } }
+    ensures text { K.opening primary.new.keeper ≡ K.opening primary.old.keeper }
     ensures fault { IfErr result (IsFinishFault ⊥ false K.fails) }
 {
     match primary.keep() {
@@ -59,7 +60,7 @@ fn settle<S: CheckpointStore, K: Keeper, C: Crew>(
     primary: &mut Primary<S, K>,
     crew: &mut C,
 ) -> Result<(), ServeFault>
-    ensures bank { PreservesBank K.Keeps primary.old primary.new }
+    ensures bank { PreservesBank K.Keeps K.opening K.has_failed primary.old primary.new }
     ensures log { primary.new.log ≡ primary.old.log }
     ensures one_each { IsLog primary.new.log }
     ensures whole_log { OnOk result (HasWholeLog primary.new) }
@@ -81,7 +82,7 @@ fn save<S: CheckpointStore, K: Keeper>(primary: &mut Primary<S, K>) -> Result<()
     requires whole_log { HasWholeLog primary.old }
     requires kept { K.Keeps primary.old.keeper primary.old.log }
     ensures log { primary.new.log ≡ primary.old.log }
-    ensures bank_after { OnOk result (IsBankAfter S.model K.Keeps true 1 primary.old primary.new) }
+    ensures bank_after { OnOk result (IsBankAfter S.model K.Keeps K.opening true 1 primary.old primary.new) }
     ensures fault { IfErr result (IsFinishFault ⊥ true K.fails) }
 {
     match primary.save() {

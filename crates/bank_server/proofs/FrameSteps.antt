@@ -1,5 +1,5 @@
 -- What is handled, frame after frame.
-use Rattle.std.proofs.Common.{◌≡◌, ℕ, Bool, false, Result, Err, List, [], ◌∷◌, ◌++◌, refl, sym, ap, ◌∙◌, append_assoc, append-nil}
+use Rattle.std.proofs.Common.{◌≡◌, ℕ, Bool, Option, false, Result, Err, List, [], ◌∷◌, ◌++◌, refl, sym, ap, ◌∙◌, append_assoc, append-nil}
 use Rattle.std.specs.Prelude.{◌≢◌}
 use Rattle.std.specs.List.{flat_map}
 use Rattle.std.proofs.lemmas.Grind.{flat_map-append}
@@ -21,7 +21,7 @@ use Rattle.bank_server.specs.SessionResults.{IsFaultAt}
 use Rattle.bank_server.specs.SessionFaults.{LosesCrew}
 use Rattle.bank_server.specs.declared.session_fault.SessionFault.{SessionFault}
 use Rattle.bank_server.specs.declared.session_fault.SessionFault.TheVariants.{Frame, Unexpected, CrewGone, Device, OutOfMemory, Log}
-use Rattle.bank_server.proofs.Keeping.{keeps_after}
+use Rattle.bank_server.proofs.Keeping.{goes_on_after}
 use Rattle.bank_server.proofs.SessionSteps.{leads_nowhere, leads_on}
 
 -- before the first frame
@@ -43,12 +43,12 @@ hears_frame opening old mid new unread left behind frame bytes heard spells is l
 
 -- ---- faults
 
-pub keeps_on : {S K : Type 0} {keeps : K → List (Key × Call) → Type 0} (old mid new : PrimaryOf S K)
-    → PreservesBank keeps old mid → PreservesBank keeps mid new → PreservesBank keeps old new
-keeps_on {S} {K} {keeps} old mid new first second = record {
+pub keeps_on : {S K : Type 0} {keeps : K → List (Key × Call) → Type 0} {opening : K → Option (List ℕ)} {has_failed : K → Bool} (old mid new : PrimaryOf S K)
+    → PreservesBank keeps opening has_failed old mid → PreservesBank keeps opening has_failed mid new → PreservesBank keeps opening has_failed old new
+keeps_on old mid new first second = record {
   rest = second.rest ∙ first.rest;
   opening = second.opening ∙ first.opening;
-  kept = keeps_after keeps old.keeper mid.keeper new.keeper old.log mid.log new.log first.kept second.kept;
+  keeper = goes_on_after old.keeper mid.keeper new.keeper old.log mid.log new.log first.keeper second.keeper;
 }
 
 pub loses_behind : (keeps : Bool) (old mid : BoardOf Op) (fault : SessionFault) → (keeps ≡ false → HasNoneOut old → HasNoneOut mid) → LosesCrew keeps mid fault

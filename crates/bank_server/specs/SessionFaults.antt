@@ -29,15 +29,15 @@ IsClientFault Unexpected = Unit {0}
 IsClientFault Device = Unit {0}
 IsClientFault other = ⊥
 
--- the log can't be kept, which may fail
-abbrev pub IsLogFault : Bool → SessionFault → Type 0
-IsLogFault fails (Log fault) = IsKeepFault fails fault
-IsLogFault fails other = ⊥
+-- the log can't be kept, which may fail, by a keeper that has failed or not
+abbrev pub IsLogFault : Bool → Bool → SessionFault → Type 0
+IsLogFault fails failed (Log fault) = IsKeepFault fails failed fault
+IsLogFault fails failed other = ⊥
 
--- the log is lost only if keeping it may fail
-abbrev pub LosesLog : Bool → SessionFault → Type 0
-LosesLog fails (Log fault) = IsKeepFault fails fault
-LosesLog fails other = Unit {0}
+-- the log is lost only if keeping it may fail, and the keeper has failed or memory was refused
+abbrev pub LosesLog : Bool → Bool → SessionFault → Type 0
+LosesLog fails failed (Log fault) = IsKeepFault fails failed fault
+LosesLog fails failed other = Unit {0}
 
 -- a crew that keeps no job is never gone if no op was out
 abbrev pub LosesCrew : Bool → BoardOf Op → SessionFault → Type 0

@@ -68,10 +68,10 @@ pub(crate) fn handle_bytes<W: Write, S: CheckpointStore, K: Keeper, C: Crew>(
     ensures stops { IfErr result (λ fault. Stops (opening_rows_of primary.old)
         (session_state_of primary.old.log buffers.old (W.contents writer.old)) (buffers.old.stream.unread ++ bytes.now)
         fault (session_state_of primary.new.log buffers.new (W.contents writer.new))) }
-    ensures bank { PreservesBank K.Keeps primary.old primary.new }
+    ensures bank { PreservesBank K.Keeps K.opening K.has_failed primary.old primary.new }
     ensures none_out { C.keeps ≡ false → HasNoneOut primary.old.node.board → HasNoneOut primary.new.node.board }
     ensures crew_lost { IfErr result (LosesCrew C.keeps primary.old.node.board) }
-    ensures log_lost { IfErr result (LosesLog K.fails) }
+    ensures log_lost { IfErr result (LosesLog K.fails (K.has_failed primary.new.keeper)) }
 {
     if buffers.stream.feed(bytes).is_err() {
         // It hadn't failed.
@@ -99,10 +99,10 @@ fn handle_frames<W: Write, S: CheckpointStore, K: Keeper, C: Crew>(
     ensures stops { IfErr result (λ fault. Stops (opening_rows_of primary.old)
         (session_state_of primary.old.log buffers.old (W.contents writer.old)) buffers.old.stream.unread
         fault (session_state_of primary.new.log buffers.new (W.contents writer.new))) }
-    ensures bank { PreservesBank K.Keeps primary.old primary.new }
+    ensures bank { PreservesBank K.Keeps K.opening K.has_failed primary.old primary.new }
     ensures none_out { C.keeps ≡ false → HasNoneOut primary.old.node.board → HasNoneOut primary.new.node.board }
     ensures crew_lost { IfErr result (LosesCrew C.keeps primary.old.node.board) }
-    ensures log_lost { IfErr result (LosesLog K.fails) }
+    ensures log_lost { IfErr result (LosesLog K.fails (K.has_failed primary.new.keeper)) }
 {
     loop {
         match buffers.stream.next() {
@@ -133,10 +133,10 @@ fn handle_frame<W: Write, S: CheckpointStore, K: Keeper, C: Crew>(
         (session_state_of primary.old.log buffers.old (W.contents writer.old))
         (session_state_of primary.new.log buffers.new (W.contents writer.new))) }
     ensures stream { buffers.new.stream ≡ buffers.old.stream }
-    ensures bank { PreservesBank K.Keeps primary.old primary.new }
+    ensures bank { PreservesBank K.Keeps K.opening K.has_failed primary.old primary.new }
     ensures none_out { C.keeps ≡ false → HasNoneOut primary.old.node.board → HasNoneOut primary.new.node.board }
     ensures crew_lost { IfErr result (LosesCrew C.keeps primary.old.node.board) }
-    ensures log_lost { IfErr result (LosesLog K.fails) }
+    ensures log_lost { IfErr result (LosesLog K.fails (K.has_failed primary.new.keeper)) }
 {
     match frame {
         Frame::Ask {
@@ -169,7 +169,7 @@ fn assign_number<S: CheckpointStore, K: Keeper>(
         (frames.Ask key.client key.request call.now ∷ [])
         (record { log = primary.new.log; pending = pending.new.items; written = written })) }
     ensures node { primary.new.node ≡ primary.old.node }
-    ensures bank { PreservesBank K.Keeps primary.old primary.new }
+    ensures bank { PreservesBank K.Keeps K.opening K.has_failed primary.old primary.new }
     ensures err { OnErr result (primary.new.log ≡ primary.old.log) }
     ensures fault { IfErr result (λ fault. fault ≡ faults.OutOfMemory) }
 {
@@ -195,10 +195,10 @@ fn send_outcomes<W: Write, S: CheckpointStore, K: Keeper, C: Crew>(
     ensures log { primary.new.log ≡ primary.old.log }
     ensures fault { IfErr result IsFlushFault }
     ensures stream { buffers.new.stream ≡ buffers.old.stream }
-    ensures bank { PreservesBank K.Keeps primary.old primary.new }
+    ensures bank { PreservesBank K.Keeps K.opening K.has_failed primary.old primary.new }
     ensures none_out { C.keeps ≡ false → HasNoneOut primary.old.node.board → HasNoneOut primary.new.node.board }
     ensures crew_lost { IfErr result (LosesCrew C.keeps primary.old.node.board) }
-    ensures log_lost { IfErr result (LosesLog K.fails) }
+    ensures log_lost { IfErr result (LosesLog K.fails (K.has_failed primary.new.keeper)) }
 {
     primary.settle(crew)?;
     primary.keep()?;

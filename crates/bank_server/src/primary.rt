@@ -159,7 +159,7 @@ impl<S: CheckpointStore, K: Keeper> Primary<S, K> {
         ensures among { IfOk result (IsStandingWithin (length self.new.log)) }
         ensures grows { length self.old.log ≤ length self.new.log }
         ensures node { self.new.node ≡ self.old.node }
-        ensures bank { PreservesBank K.Keeps self.old self.new }
+        ensures bank { PreservesBank K.Keeps K.opening K.has_failed self.old self.new }
         ensures err { OnErr result (self.new ≡ self.old) }
     {
         ask_key(&mut self.log, key, call)
@@ -170,7 +170,7 @@ impl<S: CheckpointStore, K: Keeper> Primary<S, K> {
     /// Fails as [`Primary::settle`] does.
     pub(crate) fn offer_rest<C: Crew>(&mut self, crew: &mut C) -> Result<(), SessionFault>
         ensures log { self.new.log ≡ self.old.log }
-        ensures bank { PreservesBank K.Keeps self.old self.new }
+        ensures bank { PreservesBank K.Keeps K.opening K.has_failed self.old self.new }
         ensures none_out { C.keeps ≡ false → HasNoneOut self.old.node.board → HasNoneOut self.new.node.board }
         ensures fault { IfErr result IsSettleFault }
         ensures crew_lost { IfErr result (LosesCrew C.keeps self.old.node.board) }
@@ -191,7 +191,7 @@ impl<S: CheckpointStore, K: Keeper> Primary<S, K> {
         ensures log { self.new.log ≡ self.old.log }
         // It has one number for each key.
         ensures one_each { IsLog self.new.log }
-        ensures bank { PreservesBank K.Keeps self.old self.new }
+        ensures bank { PreservesBank K.Keeps K.opening K.has_failed self.old self.new }
         // A crew that keeps no job leaves none out, after a fault too.
         ensures none_out { C.keeps ≡ false → HasNoneOut self.old.node.board → HasNoneOut self.new.node.board }
         ensures fault { IfErr result IsSettleFault }
@@ -207,8 +207,8 @@ impl<S: CheckpointStore, K: Keeper> Primary<S, K> {
         ensures kept { OnOk result (K.Keeps self.new.keeper self.new.log) }
         ensures unchanged { self.new ≡ record self.old { keeper = self.new.keeper } }
         // What was kept stays kept, after a fault too.
-        ensures bank { PreservesBank K.Keeps self.old self.new }
-        ensures fault { IfErr result (IsLogFault K.fails) }
+        ensures bank { PreservesBank K.Keeps K.opening K.has_failed self.old self.new }
+        ensures fault { IfErr result (IsLogFault K.fails (K.has_failed self.new.keeper)) }
     {
         Ok(self.keeper.keep(&self.log)?)
     }

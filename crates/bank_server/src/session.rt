@@ -60,11 +60,11 @@ pub fn serve_session<R: Read, W: Write, S: CheckpointStore, K: Keeper, C: Crew>(
     ensures kept { OnOk result (K.Keeps primary.new.keeper primary.new.log) }
     ensures kept_after_fault { IfErr result (λ fault. IsClientFault fault
         → K.Keeps primary.new.keeper primary.new.log) }
-    ensures bank { PreservesBank K.Keeps primary.old primary.new }
+    ensures bank { PreservesBank K.Keeps K.opening K.has_failed primary.old primary.new }
     // A crew that keeps no job leaves none out, after a fault too.
     ensures none_out { C.keeps ≡ false → HasNoneOut primary.old.node.board → HasNoneOut primary.new.node.board }
     ensures crew_lost { IfErr result (LosesCrew C.keeps primary.old.node.board) }
-    ensures log_lost { IfErr result (LosesLog K.fails) }
+    ensures log_lost { IfErr result (LosesLog K.fails (K.has_failed primary.new.keeper)) }
 {
     let served = serve_frames(alloc, reader, writer, primary, crew);
     // What was numbered is kept, whatever ended the session.
@@ -86,10 +86,10 @@ fn serve_frames<R: Read, W: Write, S: CheckpointStore, K: Keeper, C: Crew>(
     ensures cut_short { IfErr result (λ fault. IfSome (R.remaining reader.old) (λ input.
         ServesUntilFault (opening_rows_of primary.old) primary.old.log primary.new.log (W.contents writer.old)
         (W.contents writer.new) input fault)) }
-    ensures bank { PreservesBank K.Keeps primary.old primary.new }
+    ensures bank { PreservesBank K.Keeps K.opening K.has_failed primary.old primary.new }
     ensures none_out { C.keeps ≡ false → HasNoneOut primary.old.node.board → HasNoneOut primary.new.node.board }
     ensures crew_lost { IfErr result (LosesCrew C.keeps primary.old.node.board) }
-    ensures log_lost { IfErr result (LosesLog K.fails) }
+    ensures log_lost { IfErr result (LosesLog K.fails (K.has_failed primary.new.keeper)) }
 {
     primary.settle(crew)?;
     let mut buffers = SessionBuffers::new(alloc);
@@ -118,10 +118,10 @@ fn end<S: CheckpointStore, K: Keeper, C: Crew>(
     ensures whole_log { OnOk result (HasWholeLog primary.new) }
     ensures log { primary.new.log ≡ primary.old.log }
     ensures fault { IfErr result (IsEndFault buffers.now.stream) }
-    ensures bank { PreservesBank K.Keeps primary.old primary.new }
+    ensures bank { PreservesBank K.Keeps K.opening K.has_failed primary.old primary.new }
     ensures none_out { C.keeps ≡ false → HasNoneOut primary.old.node.board → HasNoneOut primary.new.node.board }
     ensures crew_lost { IfErr result (LosesCrew C.keeps primary.old.node.board) }
-    ensures log_lost { IfErr result (LosesLog K.fails) }
+    ensures log_lost { IfErr result (LosesLog K.fails (K.has_failed primary.new.keeper)) }
 {
     if !buffers.stream.ended() {
         return Err(SessionFault::Frame(FrameFault::Short));

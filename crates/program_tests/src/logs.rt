@@ -2,7 +2,7 @@
 use crate::clients::{Client, TestListener, Transcript};
 use crate::served::{ASKED, GARBAGE, OPENING, TOLD, plain};
 use bank_program::{
-    ListFault, Listing, OpenedBank, Plan, ServeFault, ServedBank, Server, list_log, open_on_file,
+    ListFault, Listing, Plan, ServeFault, ServedBank, Server, find_bank, list_log, open_on_file,
     serve_bank,
 };
 use sb_checkpoint::MemoryStore;
@@ -39,8 +39,9 @@ fn serve_on(
 ) -> Vec<u8> {
     let all = Transcript::new(alloc);
     let listener = TestListener::of(alloc, clients, &all).expect(rt, "a listener");
-    let opened = open_on_file(alloc, file, input, MemoryStore::new(alloc)).expect(rt, "a bank");
-    let OpenedBank { primary, .. } = opened;
+    let mut file = file;
+    let found = find_bank(alloc, &mut file, input).expect(rt, "a bank's log");
+    let primary = open_on_file(alloc, file, found, MemoryStore::new(alloc)).expect(rt, "a bank");
     let mut written: Vec<u8> = Vec::new(alloc);
     let plan = Plan {
         sessions: clients.len(),
@@ -105,10 +106,25 @@ fn a_bank_goes_on_from_its_log(rt: HostRuntime) {
 #[test]
 fn a_log_of_another_opening(rt: HostRuntime) {
     let alloc = rt.alloc();
-    let file = file_of(&rt, alloc, &kept(&rt, alloc));
+    let bytes = kept(&rt, alloc);
+    let mut file = file_of(&rt, alloc, &bytes);
     let other = b"alice 100.00 50.00\nbob 0.00 20.01\nbegin\n";
-    let opened = open_on_file(alloc, file, other, MemoryStore::new(alloc));
-    assert!(rt; opened.err() == Some(ServeFault::AnotherOpening));
+    let found = find_bank(alloc, &mut file, other);
+    assert!(rt; found.err() == Some(ServeFault::AnotherOpening));
+    assert!(rt; file.bytes() == bytes.as_slice(), "the log stays");
+}
+
+#[test]
+fn a_torn_rest_is_counted(rt: HostRuntime) {
+    let alloc = rt.alloc();
+    let bytes = kept(&rt, alloc);
+    for torn in [0, 1, 8, 40, 87] {
+        let mut file = file_of(&rt, alloc, &bytes);
+        file.append(&bytes[..torn.min(bytes.len())]).expect(&rt, "memory");
+        let found = find_bank(alloc, &mut file, b"").expect(&rt, "a bank's log");
+        assert_eq!(rt; found.cut, torn);
+        assert!(rt; file.bytes() == bytes.as_slice(), "what is left");
+    }
 }
 
 // What is listed of a file.

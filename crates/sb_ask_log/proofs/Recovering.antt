@@ -1,12 +1,12 @@
 -- What is read of a log's file.
-use Rattle.std.proofs.Common.{◌≡◌, ◌≢◌, ℕ, max, false, true, List, [], ◌∷◌, ◌++◌, Result, Err, length, map, take, refl, sym, ap, subst, ◌∙◌, inl, inr, ⊎_elim, append_assoc, append-nil}
+use Rattle.std.proofs.Common.{◌≡◌, ◌≢◌, ◌⊎◌, ℕ, max, false, true, List, [], ◌∷◌, ◌++◌, Result, Err, length, map, take, refl, sym, ap, subst, ◌∙◌, inl, inr, ⊎_elim, append_assoc, append-nil}
 use Rattle.std.specs.List.{All}
 use Rattle.std.proofs.lemmas.List.Elements.{All-head, All-tail}
 use Rattle.sha2.specs.Hashers.{Holds256}
 use Rattle.sha2.specs.declared.Sha256.{Sha256}
 use Rattle.sb_calls.specs.declared.ask.Key.{Key}
 use Rattle.sb_calls.specs.declared.call.Call.{Call}
-use Rattle.sb_log.specs.Lives.{Append, Crash, Happens, HappensAll, Life, ReadBack, Sync, newborn}
+use Rattle.sb_log.specs.Lives.{Append, Crash, Cut, Happens, HappensAll, Life, ReadBack, Sync, newborn}
 use Rattle.sb_log.specs.LogCalls.{IsDamagedAt, IsFileOf, ReadsLog, ReadsTo, Recovers}
 use Rattle.sb_log.specs.Reading.{Begins, IsTorn, ReadsRecords}
 use Rattle.sb_log.specs.Records.{IsBody, body_bytes, record_after, records}
@@ -17,7 +17,7 @@ use Rattle.sb_log.specs.declared.log_fault.LogFault.TheVariants.{Damaged, Device
 use Rattle.sb_log.proofs.Lives.{keeps_what_it_told}
 use Rattle.sb_log.proofs.Records.{records_push}
 use Rattle.sb_ask_log.specs.LogFile.{AreBodiesOf, log_bytes, log_magic}
-use Rattle.sb_ask_log.specs.Recovery.{AreRead, IsDamagedAskLog, IsReadFault, IsUnchangedIfDamaged, ReadsAskLog}
+use Rattle.sb_ask_log.specs.Recovery.{AreRead, IsDamagedAskLog, IsReadFault, IsSameOrCut, IsUnchangedIfDamaged, ReadsAskLog}
 use Rattle.sb_ask_log.specs.inner.Replaying.{AskReplayOf, RefusesBody, TakesBody}
 use Rattle.sb_ask_log.specs.Telling.{RecoversWhatItTold, Tells}
 use Rattle.sb_ask_log.proofs.Bodies.{bodies_begin, joined_log}
@@ -90,6 +90,15 @@ recover_fault content synced Device new m d = tt
 recover_fault content synced OutOfMemory new m d = tt
 recover_fault content synced InUse new m d = absurd d
 
+left_over : (content content_new : List ℕ) (synced synced_new : ℕ) (m : Life)
+    → (m ≡ life_of content synced) ⊎ ((bodies : List (List ℕ)) × (rest : List ℕ) × Happens (life_of content synced) (Cut bodies rest) m)
+    → IsFileOf content_new synced_new m → IsSameOrCut content content_new
+left_over content content_new synced synced_new m how is = ⊎_elim
+    (λ (same : m ≡ life_of content synced). inl (sym is.content_is ∙ ap (λ (k : Life). k.content) same))
+    (λ (cut : (bodies : List (List ℕ)) × (rest : List ℕ) × Happens (life_of content synced) (Cut bodies rest) m).
+    inr (cut.0, cut.1, cut.2.0, cut.2.1, sym is.content_is ∙ ap (λ (k : Life). k.content) cut.2.2))
+    how
+
 pub damaged_stays : (content content_new : List ℕ) (synced synced_new : ℕ) (fault : LogFault) (new : AskReplayOf) (m : Life)
     → Recovers TakesBody RefusesBody (life_of content synced) nothing_taken (Err fault) new m → IsFileOf content_new synced_new m
     → IsUnchangedIfDamaged fault content synced content_new synced_new
@@ -134,6 +143,27 @@ recovered_tells content content_new synced synced_new bodies rest end new l m r 
       given_are = are;
       only = λ f. refl;
     }
+
+-- what was replayed; the file has the records that were read, and nothing behind them
+pub recovered_is : (content content_new : List ℕ) (synced_new : ℕ) (bodies : List (List ℕ)) (rest : List ℕ) (end : LogEnd) (new : AskReplayOf)
+    (l m : Life) → ReadsTo TakesBody RefusesBody content nothing_taken bodies rest end new → Happens l (ReadBack bodies rest) m
+    → IsFileOf content_new synced_new m
+    → (left : List ℕ) × ReadsAskLog content new.text new.log left × (end.torn ≡ length left) × (content ≡ content_new ++ left)
+recovered_is content content_new synced_new bodies rest end new l m r back is = (
+  rest,
+  record { bodies = bodies; reads = r.reads; torn = r.torn; are = taken_are bodies new r.replayed },
+  r.torn_is,
+  r.reads.whole ∙ ap (λ (c : List ℕ). c ++ rest) (sym (ap (λ (k : Life). k.content) back.2) ∙ is.content_is),
+)
+
+-- after a fault the file is the same, or its torn rest is cut off
+pub stays_or_cut : (content content_new : List ℕ) (synced synced_new : ℕ) (fault : LogFault) (new : AskReplayOf) (m : Life)
+    → Recovers TakesBody RefusesBody (life_of content synced) nothing_taken (Err fault) new m → IsFileOf content_new synced_new m
+    → IsSameOrCut content content_new
+stays_or_cut content content_new synced synced_new (Damaged byte behind) new m d is = inl (sym is.content_is ∙ ap (λ (k : Life). k.content) d.1)
+stays_or_cut content content_new synced synced_new Device new m d is = left_over content content_new synced synced_new m d is
+stays_or_cut content content_new synced synced_new OutOfMemory new m d is = left_over content content_new synced synced_new m d is
+stays_or_cut content content_new synced synced_new InUse new m d is = absurd d
 
 pub recovered_empty : (content content_new : List ℕ) (synced synced_new : ℕ) (bodies : List (List ℕ)) (rest : List ℕ) (end : LogEnd) (new : AskReplayOf)
     (l m : Life) → ReadsTo TakesBody RefusesBody content nothing_taken bodies rest end new → Happens l (ReadBack bodies rest) m

@@ -1,18 +1,23 @@
 -- What a log's file was told, after an append and a sync.
-use Rattle.std.proofs.Common.{◌≡◌, ◌≢◌, ℕ, Bool, true, false, not, List, [], ◌∷◌, ◌++◌, take, drop, refl, sym, ap, subst, ◌∙◌, true≢false, ⊎_elim}
+use Rattle.std.proofs.Common.{◌≡◌, ◌≢◌, ℕ, Bool, true, false, not, List, [], ◌∷◌, ◌++◌, length, take, drop, refl, sym, ap, subst, ◌∙◌, true≢false, ⊎_elim, append-nil}
 use Rattle.std.specs.Prelude.{Result, Ok, Err, OnErr}
 use Rattle.std.specs.List.{All}
+use Rattle.std.proofs.Math.Seq.{take-length}
 use Rattle.std.proofs.lemmas.List.{take-append-drop}
+use Rattle.sha2.specs.Hashers.{Holds256}
 use Rattle.sha2.specs.declared.Sha256.{Sha256}
 use Rattle.sb_calls.specs.declared.ask.Key.{Key}
 use Rattle.sb_calls.specs.declared.call.Call.{Call}
 use Rattle.sb_sequencer.specs.Numbering.{IsLog}
 use Rattle.sb_log.specs.Lives.{Append, AppendFails, Event, Happens, HappensAll, Life, Sync, SyncFails, newborn}
-use Rattle.sb_log.specs.LogCalls.{DoesAppend, IsLogOf, DoesSync}
+use Rattle.sb_log.specs.LogCalls.{DoesAppend, DoesCreate, DoesSync, IsFileOf, IsLogOf}
+use Rattle.sb_log.specs.Records.{body_bytes, record_after}
+use Rattle.sb_log.specs.declared.log_end.LogEnd.{LogEnd}
 use Rattle.sb_log.specs.declared.log_fault.LogFault.{LogFault}
 use Rattle.sb_log.specs.declared.log_fault.LogFault.TheVariants.{Damaged, Device, InUse, OutOfMemory}
 use Rattle.sb_ask_log.specs.Asks.{IsAsk, asks_field}
 use Rattle.sb_ask_log.specs.LogFile.{AreBodiesOf, IsOpeningText, log_magic}
+use Rattle.sb_ask_log.specs.Recovery.{HasPartOfOpening}
 use Rattle.sb_ask_log.specs.Telling.{Tells}
 use Rattle.sb_ask_log.proofs.Bodies.{batch_more, opened}
 
@@ -165,3 +170,43 @@ tells_opening content synced failed hasher text body m n body_is opening appende
       given_are = subst (λ (k : Life). AreBodiesOf k.given text []) (sym synced_now.1) all;
       only = λ f. refl;
     }
+
+-- ---- a log that is made
+
+-- the first record is on the disk, and its opening was told
+pub tells_created : (content : List ℕ) (synced : ℕ) (end : LogEnd) (text body : List ℕ) (l : Life) → body ≡ log_magic ++ text → IsOpeningText text
+    → DoesCreate body (Ok end) l → IsFileOf content synced l → Holds256 end.hasher body → Tells content synced false end.hasher text []
+tells_created content synced end text body l body_is opening made is holds =
+    let m = made.0 in
+    let n = made.2.0 in
+    let same : l ≡ n = made.2.2 in
+    let given : n.given ≡ body ∷ [] = ap (λ (k : Life). k.given) made.2.1.1 ∙ ap (λ (k : Life). k.given) made.1.2 in
+    let healthy : n.healthy ≡ true = ap (λ (k : Life). k.healthy) made.2.1.1 ∙ made.2.1.0 in
+    let log : IsLogOf content synced false end.hasher n = record {
+      file = subst (IsFileOf content synced) same is;
+      healthy_is = healthy;
+      holds = λ f. subst (λ (bodies : List (List ℕ)). Holds256 end.hasher (body_bytes bodies)) (sym given)
+          (subst (Holds256 end.hasher) (sym (append-nil body)) holds);
+    } in
+    tells_opening content synced false end.hasher text body m n body_is opening made.1 made.2.1 log
+
+-- a beginning of the first record is there
+pub part_created : (content : List ℕ) (synced : ℕ) (fault : LogFault) (text body : List ℕ) (l : Life) → body ≡ log_magic ++ text
+    → DoesCreate body (Err fault) l → IsFileOf content synced l → HasPartOfOpening text content
+part_created content synced Device text body l body_is made is =
+    let first : record_after [] body ≡ record_after [] (log_magic ++ text) = ap (λ (b : List ℕ). record_after [] b) body_is in
+    ⊎_elim
+    (λ (torn : (kept : ℕ) × HappensAll newborn (AppendFails body kept ∷ []) l).
+    let happened = torn.1 in (
+      torn.0,
+      sym is.content_is ∙ ap (λ (k : Life). k.content) happened.2 ∙ ap (λ (k : Life). k.content) happened.1.2 ∙ ap (λ (r : List ℕ). take torn.0 r) first,
+    ))
+    (λ (whole : HappensAll newborn (Append body ∷ SyncFails ∷ []) l). (
+      length (record_after [] (log_magic ++ text)),
+      sym is.content_is ∙ ap (λ (k : Life). k.content) whole.2.2 ∙ ap (λ (k : Life). k.content) whole.2.1.1 ∙ ap (λ (k : Life). k.content) whole.1.2
+          ∙ first ∙ sym (take-length (record_after [] (log_magic ++ text))),
+    ))
+    made
+part_created content synced (Damaged byte behind) text body l body_is made is = absurd made
+part_created content synced OutOfMemory text body l body_is made is = absurd made
+part_created content synced InUse text body l body_is made is = absurd made

@@ -1,12 +1,12 @@
 -- What is read of a log's file.
-use Rattle.std.specs.Prelude.{◌≡◌, ◌⊎◌, ℕ, List, [], ◌∷◌, ◌++◌, length}
+use Rattle.std.specs.Prelude.{◌≡◌, ◌⊎◌, ℕ, List, [], ◌∷◌, ◌++◌, length, take}
 use Rattle.sb_calls.specs.declared.ask.Key.{Key}
 use Rattle.sb_calls.specs.declared.call.Call.{Call}
 use Rattle.sb_log.specs.Reading.{IsTorn, ReadsRecords}
 use Rattle.sb_log.specs.Records.{IsBody, body_bytes, record_after, records}
 use Rattle.sb_log.specs.declared.log_fault.LogFault.{LogFault}
 use Rattle.sb_log.specs.declared.log_fault.LogFault.TheVariants.{Damaged, InUse}
-use Rattle.sb_ask_log.specs.LogFile.{AreBodiesOf}
+use Rattle.sb_ask_log.specs.LogFile.{AreBodiesOf, log_magic}
 
 -- bodies that are read: none, and then there is no opening and no ask, or those of a log
 abbrev pub AreRead : List (List ℕ) → List ℕ → List (Key × Call) → Type 0
@@ -41,6 +41,15 @@ abbrev pub IsReadFault : List ℕ → LogFault → Type 0
 IsReadFault content (Damaged byte behind) = IsDamagedAskLog content byte behind
 IsReadFault content InUse = ⊥
 IsReadFault content other = Unit {0}
+
+-- the file has its bytes still, or what followed the whole records was torn and is cut off
+abbrev pub IsSameOrCut : List ℕ → List ℕ → Type 0
+IsSameOrCut old new = (new ≡ old)
+    ⊎ ((bodies : List (List ℕ)) × (rest : List ℕ) × ReadsRecords old bodies rest × IsTorn rest × (new ≡ records bodies))
+
+-- a beginning of the record of an opening is there, also the whole or nothing
+abbrev pub HasPartOfOpening : List ℕ → List ℕ → Type 0
+HasPartOfOpening text content = (kept : ℕ) × (content ≡ take kept (record_after [] (log_magic ++ text)))
 
 -- a file that is damaged stays as it is
 abbrev pub IsUnchangedIfDamaged : LogFault → List ℕ → ℕ → List ℕ → ℕ → Type 0

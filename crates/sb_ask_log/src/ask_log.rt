@@ -8,12 +8,11 @@ ghost use Rattle.sb_calls.specs.declared.call.Call.{Call as AnyCall};
 ghost use Rattle.sb_log.specs.declared.log_fault.LogFault.TheVariants.{Device};
 ghost use Rattle.sb_ask_log.specs.Asks.{IsAsk, asks_field};
 ghost use Rattle.sb_ask_log.specs.Keeping.{IsKeepFault};
-ghost use Rattle.sb_ask_log.specs.LogFile.{IsOpeningText, log_bytes};
+ghost use Rattle.sb_ask_log.specs.LogFile.{log_bytes};
 ghost use Rattle.sb_ask_log.specs.Telling.{KeepsAsks, Tells};
 
-use crate::ask_replay::MAGIC;
 use crate::keeper::Keeper;
-use crate::recovered_log::RecoveredLog;
+use crate::log_in_file::LogInFile;
 use sb_frames::{Frame, encode};
 use sb_log::{DurableLog, HEAD, LogFault, LogFile};
 use sb_sequencer::Sequencer;
@@ -49,38 +48,8 @@ impl<F: LogFile> Model for AskLog<F> {
 }
 
 impl<F: LogFile> AskLog<F> {
-    /// Makes a log with this opening in an empty file, and has it on the disk.
-    ///
-    /// Fails with [`LogFault::Device`] if the device fails, and with [`LogFault::OutOfMemory`] if
-    /// memory is refused.
-    pub fn create(alloc: Global, file: F, text: &[u8]) -> Result<AskLog<F>, LogFault>
-        requires opening { IsOpeningText text.now }
-        requires size { length text.now + 8 < 2 ^ 32 }
-        requires empty { F.IsHonest file → (F.content file ≡ []) × (F.synced file ≡ 0) }
-        ensures keeps { IfOk result (λ log. KeepsAsks F.IsHonest F.content F.synced log []) }
-        ensures text { IfOk result (λ log. log.text ≡ text.now) }
-        ensures honest { IfOk result (λ log. F.IsHonest file ↔ F.IsHonest log.log.file) }
-        ensures fault { IfErr result (IsKeepFault true) }
-    {
-        let text = Vec::from_slice(alloc, text)?;
-        let mut batch = Vec::from_slice(alloc, &[0; HEAD])?;
-        batch.extend_from_slice(MAGIC)?;
-        batch.extend_from_slice(&text)?;
-        let mut log = DurableLog::new(file, Sha256::new());
-        log.append(&mut batch)?;
-        log.sync()?;
-        let hasher = log.hasher().clone().unwrap();
-        Ok(AskLog {
-            log,
-            text,
-            hasher,
-            saved: 0,
-            batch,
-        })
-    }
-
-    /// Goes on with the log of a file that was recovered, and answers the sequencer's log beside it.
-    pub fn resume(alloc: Global, file: F, found: RecoveredLog) -> (AskLog<F>, Box<Sequencer>)
+    /// Goes on with the log that a file has, and answers the sequencer's log beside it.
+    pub fn resume(alloc: Global, file: F, found: LogInFile) -> (AskLog<F>, Box<Sequencer>)
         requires some { found.text.items ≢ [] }
         requires holds { Holds256 found.end.hasher (log_bytes found.text.items found.log.value.log) }
         requires told { F.IsHonest file → Tells (F.content file) (F.synced file) false found.end.hasher
@@ -90,7 +59,7 @@ impl<F: LogFile> AskLog<F> {
         ensures text { result.0.text ≡ found.text.items }
         ensures file { result.0.log.file ≡ file }
     {
-        let RecoveredLog { text, log, end } = found;
+        let LogInFile { text, log, end } = found;
         let hasher = end.hasher.clone().unwrap();
         let saved = log.length();
         let kept = AskLog {
@@ -140,7 +109,8 @@ impl<F: LogFile> AskLog<F> {
         ensures stays { KeepsAsks F.IsHonest F.content F.synced self.old (take self.old.saved log.now.log)
             → OnErr result (KeepsAsks F.IsHonest F.content F.synced self.new (take self.old.saved log.now.log)) }
         ensures text { self.new.text ≡ self.old.text }
-        ensures fault { IfErr result (IsKeepFault true) }
+        ensures failed { self.old.log.failed ≡ true → self.new.log.failed ≡ true }
+        ensures fault { IfErr result (IsKeepFault true self.new.log.failed) }
         ensures device { IsErrOf result Device
             → (self.old.log.failed ≡ true) ⊎ (F.has_failed self.new.log.file ≡ true) }
     {
@@ -182,6 +152,8 @@ impl<F: LogFile> Keeper for AskLog<F> {
     ghost opening = { λ log. Some log.text };
 
     ghost fails = { true };
+
+    ghost has_failed = { λ log. log.log.failed };
 
     fn keep(&mut self, log: &Sequencer) -> Result<(), LogFault> {
         self.save_rest(log)

@@ -42,13 +42,20 @@ impl AskReplay {
     pub(crate) fn new(alloc: Global) -> Result<AskReplay, AllocError>
         ensures { IfOk result (λ replay. replay ≡ record { text = []; log = [] }) }
     {
-        let log = Box::new(alloc, Sequencer::open(alloc, 1))?;
+        let log = empty_log(alloc)?;
         Ok(AskReplay {
             alloc,
             text: Vec::new(alloc),
             log,
         })
     }
+}
+
+/// A log of no ask.
+pub(crate) fn empty_log(alloc: Global) -> Result<Box<Sequencer>, AllocError>
+    ensures { IfOk result (λ log. log.value.log ≡ []) }
+{
+    Ok(Box::new(alloc, Sequencer::open(alloc, 1))?)
 }
 
 impl Replay for AskReplay {

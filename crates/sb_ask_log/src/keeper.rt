@@ -3,7 +3,7 @@ ghost use Rattle.std.specs.Prelude.{◌≡◌, Bool, List, ℕ, Option, None, fa
 ghost use Rattle.std.specs.Option.{option_map};
 ghost use Rattle.sb_calls.specs.declared.ask.Key.{Key as AnyKey};
 ghost use Rattle.sb_calls.specs.declared.call.Call.{Call as AnyCall};
-ghost use Rattle.sb_ask_log.specs.Keeping.{IsKeepFault, KeepsBeginning, KeepsOn};
+ghost use Rattle.sb_ask_log.specs.Keeping.{IsKeepFault, KeeperGoesOn, KeepsBeginning};
 ghost use Rattle.sb_ask_log.specs.LogFile.{log_digest};
 
 use sb_log::LogFault;
@@ -20,6 +20,9 @@ pub trait Keeper: Drop {
     /// Whether keeping may fail.
     ghost fails: { Bool };
 
+    /// Whether it has failed, and keeps nothing more.
+    ghost has_failed: { Self → Bool };
+
     /// Keeps a whole log, of which it keeps a beginning.
     ///
     /// Fails with
@@ -29,9 +32,8 @@ pub trait Keeper: Drop {
         requires { KeepsBeginning Keeps self.old log.now.log }
         ensures kept { OnOk result (Keeps self.new log.now.log) }
         // What was kept stays kept, after a fault too.
-        ensures stays { KeepsOn Keeps self.old log.now.log self.new log.now.log }
-        ensures opening { opening self.new ≡ opening self.old }
-        ensures fault { IfErr result (IsKeepFault fails) };
+        ensures stays { KeeperGoesOn Keeps opening has_failed self.old log.now.log self.new log.now.log }
+        ensures fault { IfErr result (IsKeepFault fails (has_failed self.new)) };
 
     /// The digest of the log that it keeps, if it keeps one in a file.
     fn digest(&self) -> Option<[u8; 32]>
@@ -49,6 +51,8 @@ impl Keeper for NoKeeper {
     ghost opening = { λ keeper. None };
 
     ghost fails = { false };
+
+    ghost has_failed = { λ keeper. false };
 
     fn keep(&mut self, _log: &Sequencer) -> Result<(), LogFault> {
         Ok(())

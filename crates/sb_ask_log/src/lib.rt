@@ -3,16 +3,18 @@
 
 mod ask_log;
 mod ask_replay;
+mod creation;
 mod keeper;
 mod laws;
+mod log_in_file;
 mod opening_text;
-mod recovered_log;
 
 pub use ask_log::AskLog;
+pub use creation::create_asks;
 pub use keeper::{Keeper, NoKeeper};
 pub use laws::recovers_what_it_told;
+pub use log_in_file::{LogInFile, read_asks, recover_asks};
 pub use opening_text::is_opening_text;
-pub use recovered_log::{RecoveredLog, read_asks, recover_asks};
 
 #[cfg(test)]
 mod tests;

@@ -68,7 +68,10 @@ fn made<F: LogFile>(rt: &impl Abort, alloc: Global, file: F) -> Result<AskLog<F>
 {
     let is = is_opening_text(alloc, TEXT).expect(rt, "memory");
     assert!(rt; is, "an opening");
-    AskLog::create(alloc, file, TEXT)
+    let mut file = file;
+    let made = create_asks(alloc, &mut file, Vec::from_slice(alloc, TEXT)?)?;
+    let (log, _) = AskLog::resume(alloc, file, made);
+    Ok(log)
 }
 
 // Whether a head ends with a log's digest.

@@ -1,8 +1,8 @@
 -- What the calls of a log do, as events of its file's life.
-use Rattle.std.specs.Prelude.{◌≡◌, ◌⊎◌, ℕ, Bool, false, not, Result, Ok, Err, List, ◌++◌, drop, length}
+use Rattle.std.specs.Prelude.{◌≡◌, ◌⊎◌, ℕ, Bool, false, not, Result, Ok, Err, List, [], ◌∷◌, ◌++◌, drop, length}
 use Rattle.sha2.specs.declared.Sha256.{Sha256}
 use Rattle.sha2.specs.Hashers.{Holds256}
-use Rattle.sb_log.specs.Lives.{Append, AppendFails, Cut, Happens, Life, ReadBack, Sync, SyncFails}
+use Rattle.sb_log.specs.Lives.{Append, AppendFails, Cut, Happens, HappensAll, Life, ReadBack, Sync, SyncFails, newborn}
 use Rattle.sb_log.specs.Reading.{IsTorn, ReadsRecords}
 use Rattle.sb_log.specs.Records.{IsBody, body_bytes, record_after, records}
 use Rattle.sb_log.specs.Replaying.{ReplaysAll}
@@ -33,6 +33,14 @@ DoesAppend l body (Ok done) m = Happens l (Append body) m
 -- the device failed now, or a call failed before
 DoesAppend l body (Err Device) m = ((kept : ℕ) × Happens l (AppendFails body kept) m) ⊎ ((l.healthy ≡ false) × (m ≡ l))
 DoesAppend l body (Err other) m = ⊥
+
+-- what making a log with this first body does, by its answer
+abbrev pub DoesCreate : List ℕ → Result LogEnd LogFault → Life → Type 0
+DoesCreate body (Ok end) l = HappensAll newborn (Append body ∷ Sync ∷ []) l
+-- the device failed at the append or at the sync
+DoesCreate body (Err Device) l = ((kept : ℕ) × HappensAll newborn (AppendFails body kept ∷ []) l)
+    ⊎ HappensAll newborn (Append body ∷ SyncFails ∷ []) l
+DoesCreate body (Err other) l = ⊥
 
 -- what a sync does, by its answer
 abbrev pub DoesSync : Life → Result (Unit {0}) LogFault → Life → Type 0

@@ -76,7 +76,7 @@ impl<F: LogFile> DurableLog<F> {
         digest_of(&self.hasher)
     }
 
-    /// DoesAppend a record. The buffer has room for its head, and then its body; the head is written
+    /// Appends a record. The buffer has room for its head, and then its body; the head is written
     /// here. Until a sync the record may be lost.
     ///
     /// Fails with [`LogFault::Device`] if the device fails, or failed before: then the file has to be

@@ -10,7 +10,7 @@ use std::marker::Model;
 
 /// A file in memory whose device fails at one call. Every other call acts on the file in memory.
 ///
-/// ReadsRecords, appends, syncs, cuts and repeated writes are counted together.
+/// Reads, appends, syncs, cuts and repeated writes are counted together.
 #[derive(Drop)]
 pub struct FaultyFile {
     inner: MemoryFile,

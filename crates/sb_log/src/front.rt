@@ -27,7 +27,7 @@ pub(crate) enum Front {
     Damaged(usize),
 }
 
-/// ReadsRecords what stands at a place, where the record of the next body belongs. A whole record is in the
+/// Reads what stands at a place, where the record of the next body belongs. A whole record is in the
 /// buffer then, and the hasher holds its body too.
 ///
 /// Fails with [`LogFault::Device`] and [`LogFault::OutOfMemory`]. The file stays as it is.

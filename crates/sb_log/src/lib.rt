@@ -2,6 +2,7 @@
 //! told of it.
 #![tactic(auto)]
 
+mod creation;
 mod durable_log;
 mod faulty_file;
 mod front;
@@ -18,6 +19,7 @@ mod system_file;
 #[cfg(test)]
 mod tests;
 
+pub use creation::create_log;
 pub use durable_log::DurableLog;
 pub use faulty_file::FaultyFile;
 pub use laws::{keeps_what_it_told, one_record, tells_for_good};

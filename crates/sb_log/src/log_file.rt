@@ -23,7 +23,7 @@ pub trait LogFile: Drop {
     /// Whether its device has failed.
     ghost has_failed: { Self → Bool };
 
-    /// DoesAppend to a buffer the bytes from a place on: so many, or fewer at the file's end. The file
+    /// Appends to a buffer the bytes from a place on: so many, or fewer at the file's end. The file
     /// stays as it is.
     fn read_at(&mut self, at: usize, most: usize, out: &mut Vec<u8>) -> Result<(), ReadFault>
         ensures honest { IsHonest self.old ↔ IsHonest self.new }
@@ -34,7 +34,7 @@ pub trait LogFile: Drop {
         ensures most { OnOk result (AppendsUpTo most out.old.items out.new.items) }
         ensures failed { has_failed self.new ≡ failed_after_read (has_failed self.old) result };
 
-    /// DoesAppend these bytes. After a failure a beginning of them may be there.
+    /// Appends these bytes. After a failure a beginning of them may be there.
     fn append(&mut self, bytes: &[u8]) -> io::Result<()>
         ensures honest { IsHonest self.old ↔ IsHonest self.new }
         ensures synced { IsHonest self.old → synced self.new ≡ synced self.old }

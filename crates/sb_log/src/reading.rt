@@ -16,7 +16,7 @@ use sb_text::READS;
 use sha2::{Digest, Sha256};
 use std::alloc::Global;
 
-/// ReadsRecords the records of a file from its front on, and has each body replayed. Answers where they
+/// Reads the records of a file from its front on, and has each body replayed. Answers where they
 /// end. The file stays as it is.
 ///
 /// Memory is taken for one record at a time.

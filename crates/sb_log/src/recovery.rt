@@ -14,7 +14,7 @@ use crate::reading::read_log;
 use crate::replay::Replay;
 use std::alloc::Global;
 
-/// ReadsRecords a log as [`read_log`] does, cuts off what follows its records, and has them on the disk.
+/// Reads a log as [`read_log`] does, cuts off what follows its records, and has them on the disk.
 ///
 /// After a sync that failed, the system may hold bytes for clean that never came to the disk. So the
 /// records are written once more, the same bytes at the same places, before the file is synced. A
@@ -52,8 +52,8 @@ pub fn recover<F: LogFile, T: Replay>(
     Ok(end)
 }
 
-// Waits until all of a file is on the disk.
-fn sync_all<F: LogFile>(file: &mut F) -> Result<(), LogFault>
+/// Waits until all of a file is on the disk.
+pub(crate) fn sync_all<F: LogFile>(file: &mut F) -> Result<(), LogFault>
     ensures honest { F.IsHonest file.old ↔ F.IsHonest file.new }
     ensures content { F.IsHonest file.old → F.content file.new ≡ F.content file.old }
     ensures synced { F.IsHonest file.old → OnOk result (F.synced file.new ≡ length (F.content file.old)) }

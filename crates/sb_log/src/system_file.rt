@@ -47,6 +47,8 @@ pub struct SystemFile<'a> {
     file: File,
     reason: &'a Reason,
     failed: bool,
+    // Whether the next write goes behind the last byte, as after an append. A seek less for each.
+    at_end: bool,
     // The piece that was read last, and where it stands.
     piece: Vec<u8>,
     piece_at: usize,
@@ -104,6 +106,7 @@ impl<'a> SystemFile<'a> {
             file,
             reason,
             failed: false,
+            at_end: false,
             piece: Vec::with_capacity(alloc, PIECE)?,
             piece_at: 0,
         })
@@ -148,6 +151,7 @@ impl<'a> SystemFile<'a> {
             return Ok(());
         }
         self.piece.clear();
+        self.at_end = false;
         self.file.seek(SeekFrom::Start(at as u64))?;
         let mut chunk = [0u8; PIECE];
         let count = self.file.read(&mut chunk)?;
@@ -158,7 +162,27 @@ impl<'a> SystemFile<'a> {
         Ok(())
     }
 
-    // DoesAppend what the piece has from a place on, at most so many bytes, and answers how many.
+    // Writes these bytes at a place.
+    fn write_at(&mut self, at: usize, bytes: &[u8]) -> io::Result<()>
+        ensures { self.exit.now.failed ≡ self.entry.now.failed }
+    {
+        self.at_end = false;
+        self.file.seek(SeekFrom::Start(at as u64))?;
+        self.file.write_all(bytes)
+    }
+
+    // Writes these bytes behind the last one.
+    fn write_last(&mut self, bytes: &[u8]) -> io::Result<()>
+        ensures { self.exit.now.failed ≡ self.entry.now.failed }
+    {
+        if !self.at_end {
+            self.file.seek(SeekFrom::End(0))?;
+            self.at_end = true;
+        }
+        self.file.write_all(bytes)
+    }
+
+    // Appends what the piece has from a place on, at most so many bytes, and answers how many.
     fn push_piece(&mut self, at: usize, most: usize, out: &mut Vec<u8>) -> Result<usize, ReadFault>
         ensures bytes { IfOk result (λ count. (bytes : List ℕ) × (length bytes ≡ count) × (count ≤ most)
             × (out.new.items ≡ out.old.items ++ bytes)) }
@@ -201,7 +225,7 @@ impl<'a> LogFile for SystemFile<'a> {
     }
 
     fn append(&mut self, bytes: &[u8]) -> io::Result<()> {
-        let done = write_at(&mut self.file, SeekFrom::End(0), bytes);
+        let done = self.write_last(bytes);
         self.piece.clear();
         self.noted(done)
     }
@@ -212,19 +236,14 @@ impl<'a> LogFile for SystemFile<'a> {
     }
 
     fn cut(&mut self, size: usize) -> io::Result<()> {
+        self.at_end = false;
         let done = self.file.set_len(size as u64);
         self.piece.clear();
         self.noted(done)
     }
 
     fn write_again(&mut self, at: usize, bytes: &[u8]) -> io::Result<()> {
-        let done = write_at(&mut self.file, SeekFrom::Start(at as u64), bytes);
+        let done = self.write_at(at, bytes);
         self.noted(done)
     }
-}
-
-// Writes these bytes at a place.
-fn write_at(file: &mut File, place: SeekFrom, bytes: &[u8]) -> io::Result<()> {
-    file.seek(place)?;
-    file.write_all(bytes)
 }

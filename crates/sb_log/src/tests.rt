@@ -61,7 +61,7 @@ fn none(alloc: Global) -> Bodies {
     }
 }
 
-// DoesAppend a body of at most 1,000 bytes.
+// Appends a body of at most 1,000 bytes.
 fn append<F: LogFile>(alloc: Global, log: &mut DurableLog<F>, body: &[u8]) -> Result<(), LogFault> {
     let mut buffer = Vec::new(alloc);
     buffer.extend_from_slice(&[0; HEAD])?;

@@ -20,6 +20,7 @@ use std::process::Abort;
 struct CountingKeeper {
     left: u32,
     kept: u64,
+    failed: bool,
 }
 
 impl Keeper for CountingKeeper {
@@ -29,8 +30,11 @@ impl Keeper for CountingKeeper {
 
     ghost fails = { true };
 
+    ghost has_failed = { λ keeper. keeper.failed };
+
     fn keep(&mut self, log: &Sequencer) -> Result<(), LogFault> {
         if self.left == 0 {
+            self.failed = true;
             return Err(LogFault::Device);
         }
         self.left -= 1;
@@ -58,7 +62,11 @@ fn kept_bank(
         log.ask(7, request, &call).expect(rt, "a number");
     }
     let opening = read_opening(alloc, OPENING).expect(rt, "an opening");
-    let keeper = CountingKeeper { left, kept: 0 };
+    let keeper = CountingKeeper {
+        left,
+        kept: 0,
+        failed: false,
+    };
     Primary::on_log(alloc, opening, MemoryStore::new(alloc), log, keeper).expect(rt, "a bank")
 }
 

@@ -1,4 +1,4 @@
-use Rattle.std.proofs.Common.{◌≡◌, ◌++◌, ◌∷◌, [], ℕ, List, sym, ap, subst, ◌∙◌}
+use Rattle.std.proofs.Common.{◌≡◌, ◌++◌, ◌∷◌, [], ℕ, Bool, Option, List, sym, ap, subst, ◌∙◌}
 use Rattle.std.specs.Prelude.{Result, Ok, Err, codes, drop, map}
 use Rattle.std.proofs.lemmas.Grind.{flat_map-append}
 use Rattle.sb_rows.specs.Balances.{Balances}
@@ -31,13 +31,13 @@ opening_if_whole (Ok found) rest opening is = ap Ok (nothing_behind found (rest 
 opening_if_whole (Err fault) rest opening is = cc
 
 -- the bank that has this log over this opening has the rows after it
-rows_after_log : {S K : Type 0} (keeps : K → List (Key × Call) → Type 0) (text : List ℕ) (opening : OpeningText) (log : List (Key × Call))
-    (old new : PrimaryOf S K) (after : Balances)
+rows_after_log : {S K : Type 0} {keeps : K → List (Key × Call) → Type 0} {text_of : K → Option (List ℕ)} {has_failed : K → Bool}
+    (text : List ℕ) (opening : OpeningText) (log : List (Key × Call)) (old new : PrimaryOf S K) (after : Balances)
     → opening_of text ≡ Ok opening → old.log ≡ log → old.node.names ≡ opening.names → old.node.board.opening ≡ opening.balances
-    → new.log ≡ old.log → PreservesBank keeps old new
+    → new.log ≡ old.log → PreservesBank keeps text_of has_failed old new
     → SameCustomers new.node.names after × (rows_of new.node.names after ≡ rows_after (calls_of new.log) (rows_of new.node.names new.node.board.opening))
     → AreRowsAfter text log new.node.names after
-rows_after_log keeps text opening log old new after read log_is names_are balances_are same_log bank rows = record {
+rows_after_log text opening log old new after read log_is names_are balances_are same_log bank rows = record {
   opening = opening;
   read = read;
   names_are = ap (λ (r : RestOf _). r.names) bank.rest ∙ names_are;
@@ -79,7 +79,7 @@ returns-clause-listed c =
     let node = c.in_ok-primary.ensures.node in (
       primary.node.names,
       columns,
-      rows_after_log _ text opening c.args.found.log.value.log c.in_ok-primary.primary primary columns read c.in_ok-primary.ensures.log
+      rows_after_log text opening c.args.found.log.value.log c.in_ok-primary.primary primary columns read c.in_ok-primary.ensures.log
           (ap (λ (n : ReplicaOf _). n.names) node) (ap (λ (n : ReplicaOf _). n.board.opening) node) c.settle.ensures.log c.settle.ensures.bank rows,
       listed_is (map customer_line (customers_of c.directory.result.now columns)) c.new-listed.result.items c.list_customers.new.out.items
           c.extend_from_slice.new.self.items c.new-listed.ensures.items c.in_ok-list_customers.ensures c.in_ok-extend_from_slice.ensures.items

@@ -15,4 +15,4 @@ returns-clause-leads g c written =
     (c.push_reserved.ensures.items ∙ ap (λ (l : List PendingAsk). l ++ ask ∷ []) c.in_ok-reserve.ensures.items) refl
 
 pub returns-in_err-reserve-clause-bank : goal.returns-in_err-reserve-clause-bank
-returns-in_err-reserve-clause-bank g c = stays_bank g.K.Keeper.Keeps c.args.primary.now
+returns-in_err-reserve-clause-bank g c = stays_bank c.args.primary.now

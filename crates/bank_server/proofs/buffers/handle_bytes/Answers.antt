@@ -29,7 +29,7 @@ returns-clause-crew_lost g c =
     c.handle_frames.ensures.none_out) c.offer_rest.ensures.crew_lost
 
 pub returns-then-is_err-clause-bank : goal.returns-then-is_err-clause-bank
-returns-then-is_err-clause-bank g c = stays_bank g.K.Keeper.Keeps c.args.primary.now
+returns-then-is_err-clause-bank g c = stays_bank c.args.primary.now
 
 pub returns-clause-bank : goal.returns-clause-bank
 returns-clause-bank g c =

@@ -28,4 +28,4 @@ returns-in-Ask-clause-crew_lost g c =
     if_err c.assign_number.result (λ fault is. subst (LosesCrew g.C.Crew.keeps c.args.primary.now.node.board) (sym is) tt) c.assign_number.ensures.fault
 
 pub returns-in_default-clause-bank : goal.returns-in_default-clause-bank
-returns-in_default-clause-bank g c = stays_bank g.K.Keeper.Keeps c.args.primary.now
+returns-in_default-clause-bank g c = stays_bank c.args.primary.now

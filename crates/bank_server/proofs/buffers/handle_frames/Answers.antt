@@ -18,7 +18,7 @@ loop-frame-init g c = record {
       (session_state_of c.args.primary.now.log c.args.buffers.now (g.W.Write.contents c.args.writer.now)) c.args.buffers.now.stream.unread;
   among = c.requires.among;
   going = c.requires.healthy;
-  bank = stays_bank g.K.Keeper.Keeps c.args.primary.now;
+  bank = stays_bank c.args.primary.now;
   none_out = λ e none. none;
 }
 

@@ -16,4 +16,4 @@ returns-then-not-ended-clause-fault g c = (
 )
 
 pub returns-then-not-ended-clause-bank : goal.returns-then-not-ended-clause-bank
-returns-then-not-ended-clause-bank g c = stays_bank g.K.Keeper.Keeps c.args.primary.now
+returns-then-not-ended-clause-bank g c = stays_bank c.args.primary.now

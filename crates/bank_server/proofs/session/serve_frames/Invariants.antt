@@ -16,6 +16,6 @@ invariant-loop g l = record {
       (session_state_of l.primary.log l.buffers (g.W.Write.contents l.writer)) l.buffers.stream.unread;
   short : IsShort l.buffers.stream;
   among : ArePendingWithin (length l.primary.log) l.buffers.pending.items;
-  bank : PreservesBank g.K.Keeper.Keeps l.fn.primary l.primary;
+  bank : PreservesBank g.K.Keeper.Keeps g.K.Keeper.opening g.K.Keeper.has_failed l.fn.primary l.primary;
   none_out : g.C.Crew.keeps ≡ false → HasNoneOut l.fn.primary.node.board → HasNoneOut l.primary.node.board;
 }

@@ -6,7 +6,7 @@ use Rattle.bank_program.proofs.server.Server.serve_whole.Goals as goal
 pub returns-clause-served : goal.returns-clause-served
 returns-clause-served g c = on_ok_weaker c.print_rows.result (λ printed.
     let first = c.in_ok-finish_session.ensures.bank_after in
-    let left = left_behind_first g.S.CheckpointStore.model g.K.Keeper.Keeps c.args.self.now.plan.saves c.args.self.now.plan.sessions
+    let left = left_behind_first g.S.CheckpointStore.model g.K.Keeper.Keeps g.K.Keeper.opening c.args.self.now.plan.saves c.args.self.now.plan.sessions
     c.args.self.now.primary c.finish_session.new.primary c.serve_all.new.self.primary first c.in_ok-serve_all.ensures.bank_after in
     record {
       opened = c.finish_session.new.primary;
@@ -19,7 +19,7 @@ returns-clause-served g c = on_ok_weaker c.print_rows.result (λ printed.
           (g.W.Write.contents c.print_log.new.writer) (g.W.Write.contents c.print_port.new.writer)
           (g.W.Write.contents c.serve_all.new.self.writer) (g.W.Write.contents c.print_log-2.new.writer)
           (g.W.Write.contents c.print_rows.new.writer)
-          left.bank c.finish_session.ensures.log c.in_ok-print_log.ensures.printed c.in_ok-print_port.ensures.printed
+          left.bank first.text left.text c.finish_session.ensures.log c.in_ok-print_log.ensures.printed c.in_ok-print_port.ensures.printed
           c.in_ok-serve_all.ensures.served c.in_ok-print_log-2.ensures.printed printed;
       left = left;
     }) c.print_rows.ensures.printed

@@ -17,7 +17,7 @@ returns-clause-bank g c =
     record {
       rest = ap (λ (p : PrimaryOf g.row.S.Denot g.row.K.Denot). rest_of p.node) c.self.view_is;
       opening = ap (λ (p : PrimaryOf g.row.S.Denot g.row.K.Denot). p.node.board.opening) c.self.view_is;
-      kept = grown_on g.K.Keeper.Keeps old.keeper c.self.inside.keeper old.log new
+      keeper = grown_on old.keeper c.self.inside.keeper old.log new
           (ap (λ (p : PrimaryOf g.row.S.Denot g.row.K.Denot). p.keeper) c.self.view_is)
           (subst (λ (l : List (Key × Call)). ExtendsLog l new) log
           (extends_always c.ask_key.result c.deref_mut.result.now c.ask_key.new.sequencer c.ask_key.ensures.log c.ask_key.ensures.err));

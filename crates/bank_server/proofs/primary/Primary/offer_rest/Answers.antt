@@ -27,7 +27,7 @@ returns-clause-bank g c =
     record {
       rest = c.catch_up.ensures.rest ∙ ap (λ (r : ReplicaOf g.row.S.Denot). rest_of r) node;
       opening = c.catch_up.ensures.opening ∙ ap (λ (r : ReplicaOf g.row.S.Denot). r.board.opening) node;
-      kept = same_on g.K.Keeper.Keeps old.keeper c.self.inside.keeper old.log c.self.inside.log.value.log
+      keeper = same_on old.keeper c.self.inside.keeper old.log c.self.inside.log.value.log
           (ap (λ (p : PrimaryOf g.row.S.Denot g.row.K.Denot). p.keeper) c.self.view_is)
           (ap (λ (p : PrimaryOf g.row.S.Denot g.row.K.Denot). p.log) c.self.view_is);
     }

@@ -1,4 +1,4 @@
-use Rattle.std.proofs.Common.{◌≡◌, ◌++◌, ◌∙◌, List, [], take, Result, Ok, Err, ap, sym, subst, append-nil}
+use Rattle.std.proofs.Common.{◌≡◌, ◌++◌, ◌∙◌, List, [], take, Result, Ok, Err, Some, ap, sym, subst, append-nil}
 use Rattle.std.specs.Prelude.{OnErr, OnOk}
 use Rattle.std.proofs.lemmas.List.{take_at}
 use Rattle.sb_calls.specs.declared.ask.Key.{Key}
@@ -16,12 +16,16 @@ kept_on (Err fault) keeps log kept rest parts all some =
     ([], subst keeps (sym same) some, rest, parts ∙ ap (λ (l : List (Key × Call)). l ++ rest) (sym same))
 
 pub returns-clause-stays : goal.returns-clause-stays
-returns-clause-stays g c kept rest keeps parts =
-    let log = c.args.log.now.log in
-    let old = c.args.self.now in
-    let front : take old.saved log ≡ kept =
-    ap (λ (l : List (Key × Call)). take old.saved l) parts ∙ take_at kept rest old.saved (sym keeps.saved_is) in
-    let was = subst (KeepsAsks {F = g.row.F.Denot} g.F.LogFile.IsHonest g.F.LogFile.content g.F.LogFile.synced old) (sym front) keeps in
-    let now = KeepsAsks {F = g.row.F.Denot} g.F.LogFile.IsHonest g.F.LogFile.content g.F.LogFile.synced c.save_rest.new.self in
-    kept_on c.save_rest.result now log kept rest parts (c.save_rest.ensures.saved was)
-    (subst (λ (l : List (Key × Call)). OnErr c.save_rest.result (now l)) front (c.save_rest.ensures.stays was))
+returns-clause-stays g c = record {
+  keeps_on = λ kept rest keeps parts.
+      let log = c.args.log.now.log in
+      let old = c.args.self.now in
+      let front : take old.saved log ≡ kept =
+      ap (λ (l : List (Key × Call)). take old.saved l) parts ∙ take_at kept rest old.saved (sym keeps.saved_is) in
+      let was = subst (KeepsAsks {F = g.row.F.Denot} g.F.LogFile.IsHonest g.F.LogFile.content g.F.LogFile.synced old) (sym front) keeps in
+      let now = KeepsAsks {F = g.row.F.Denot} g.F.LogFile.IsHonest g.F.LogFile.content g.F.LogFile.synced c.save_rest.new.self in
+      kept_on c.save_rest.result now log kept rest parts (c.save_rest.ensures.saved was)
+      (subst (λ (l : List (Key × Call)). OnErr c.save_rest.result (now l)) front (c.save_rest.ensures.stays was));
+  same_opening = ap Some c.save_rest.ensures.text;
+  failed = c.save_rest.ensures.failed;
+}

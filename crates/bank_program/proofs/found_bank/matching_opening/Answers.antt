@@ -1,21 +1,12 @@
 use Rattle.std.proofs.Common.{eqb-true, length, sym, ◌∙◌, inl, inr}
 use Rattle.std.specs.Cmp.Lexicographic.{same_text}
 use Rattle.std.proofs.lemmas.List.{nil_from_length}
-use Rattle.bank_program.proofs.OpenedBanks.{not_false}
-use Rattle.bank_program.proofs.opened_bank.resume.Goals as goal
-use Rattle.bank_program.proofs.opened_bank.resume.Goals.{else-not-is_empty-via-then-not-is_empty+in_ok-with_line_end+else-ne, else-not-is_empty-via-else-not-is_empty}
-
-pub returns-clause-on : goal.returns-clause-on
-returns-clause-on g c = record {
-  log_is = cc (c.in_ok-on_log.ensures.log, c.resume-keeper.ensures.log);
-  text_is = cc (c.in_ok-on_log.ensures.keeper, c.resume-keeper.ensures.text);
-  opening = c.in_ok-opening.opening;
-  read = rw (sym c.deref.ensures.value) c.in_ok-opening.ensures.whole;
-  node_is = c.in_ok-on_log.ensures.node;
-}
+use Rattle.bank_program.proofs.FoundBanks.{not_false}
+use Rattle.bank_program.proofs.found_bank.matching_opening.Goals as goal
+use Rattle.bank_program.proofs.found_bank.matching_opening.Goals.{else-not-is_empty-via-then-not-is_empty+in_ok-with_line_end+else-ne, else-not-is_empty-via-else-not-is_empty}
 
 pub returns-clause-same : goal.returns-clause-same
-returns-clause-same g c = elim c.else-not-is_empty.branch [
+returns-clause-same c = elim c.else-not-is_empty.branch [
   | else-not-is_empty-via-then-not-is_empty+in_ok-with_line_end+else-ne w ↦
       inr (sym w.in_ok-with_line_end.ensures ∙ sym w.as_slice.ensures.value
       ∙ same_text w.as_slice.result.now w.as_slice-then-not-is_empty.result.now (sym (not_false _ (sym w.ne.ensures ∙ w.if-ne.false)))

@@ -3,7 +3,7 @@ use Rattle.std.proofs.lemmas.Result.{err_from_is_err_and}
 use Rattle.sb_log.specs.declared.log_fault.LogFault.TheVariants.{Device}
 use Rattle.sb_ask_log.specs.inner.Replaying.{AskReplayOf}
 use Rattle.sb_ask_log.proofs.Recovering.{err_again, read_at, read_fault, read_holds, read_is}
-use Rattle.sb_ask_log.proofs.recovered_log.read_asks.Goals as goal
+use Rattle.sb_ask_log.proofs.log_in_file.read_asks.Goals as goal
 
 pub returns-in_err-end-clause-fault : goal.returns-in_err-end-clause-fault
 returns-in_err-end-clause-fault g c honest =

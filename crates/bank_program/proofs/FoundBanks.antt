@@ -1,8 +1,8 @@
--- The text of a new log is an opening up to its end.
-use Rattle.std.proofs.Common.{◌≡◌, ℕ, suc, ◌+◌, ◌-◌, ◌<◌, ◌≤◌, ◌==◌, ◌≢◌, Bool, true, false, not, eqb-true, if◌then◌else◌, Result, Ok, Err, List, [], ◌∷◌, ◌++◌, length, slice_index, take, drop, refl, sym, ap, ◌∙◌, arith, length-drop}
+-- The bank of a log's file: the text of a new log is an opening up to its end, and why no bank is found.
+use Rattle.std.proofs.Common.{◌≡◌, ℕ, suc, ◌+◌, ◌-◌, ◌<◌, ◌≤◌, ◌==◌, ◌≢◌, Bool, true, false, not, eqb-true, if◌then◌else◌, Result, Ok, Err, List, [], ◌∷◌, ◌++◌, length, slice_index, take, drop, inl, inr, refl, sym, ap, ◌∙◌, arith, length-drop}
 use Rattle.std.proofs.Math.ListN.{drop_of_length-le}
 use Rattle.std.proofs.Math.Seq.{drop-cons}
-use Rattle.std.proofs.lemmas.List.{nil_from_length, take-append-drop}
+use Rattle.std.proofs.lemmas.List.{append_cancel_right, nil_from_length, take-append-drop}
 use Rattle.sb_rows.specs.Customer.{Customer, names_of, balances_of}
 use Rattle.sb_rows.specs.Opening.{OpeningText, customers_from, opening_of, ◌>>=◌}
 use Rattle.sb_rows.specs.Text.{lines, bytes_of_lines}
@@ -10,11 +10,21 @@ use Rattle.sb_rows.specs.declared.fault.LineFault.{LineFault}
 use Rattle.sb_rows.specs.declared.fault.LineFault.TheVariants.{NoBegin}
 use Rattle.sb_rows.proofs.OpeningSteps.{customers_from-nil, opening_of-fault}
 use Rattle.sb_rows.proofs.SplitAtFirstByte.{lines-nil}
+use Rattle.sb_calls.specs.declared.ask.Key.{Key}
+use Rattle.sb_calls.specs.declared.call.Call.{Call}
+use Rattle.sb_log.specs.Records.{records}
+use Rattle.sb_log.specs.declared.log_fault.LogFault.{LogFault}
 use Rattle.sb_ask_log.specs.LogFile.{IsOpeningText}
+use Rattle.sb_ask_log.specs.Recovery.{AreRead, ReadsAskLog}
 use Rattle.bank_server.specs.Input.{in_opening}
-use Rattle.bank_program.specs.OpenedBank.{with_line_end}
+use Rattle.bank_server.specs.declared.fault.InputFault.{InputFault}
+use Rattle.bank_server.specs.declared.fault.RunFault.TheVariants as run
+use Rattle.bank_program.specs.FoundBank.{IsFindFault, with_line_end}
 use Rattle.bank_program.specs.Opening.{with_nothing_behind, whole_opening_of}
-use Rattle.bank_program.proofs.WholeOpenings.{whole_is}
+use Rattle.bank_program.specs.declared.serve_fault.ServeFault.{ServeFault}
+use Rattle.bank_program.specs.declared.serve_fault.ServeFault.TheVariants.{AnotherOpening, Log, PortTaken, ReadBack, Run, Store}
+use Rattle.bank_program.specs.inner.FindSteps.{IsMatchFault}
+use Rattle.bank_program.proofs.WholeOpenings.{whole_if_all, whole_is}
 
 -- ---- the end of the last line
 
@@ -121,3 +131,42 @@ some_if_filled text count is some none =
     let no_byte : count ≡ 0 = is ∙ ap length none in
     let zero : (count == 0) ≡ true = rw no_byte refl in
     cc
+
+-- ---- why no bank is found
+
+-- an opening isn't empty
+pub filled : (text : List ℕ) (opening : OpeningText) → whole_opening_of text ≡ Ok opening → text ≢ []
+filled text opening is none =
+    let read : opening_of text ≡ Ok opening = (whole_takes text opening is).0 in
+    let not_read : opening_of text ≡ Err (1, NoBegin) = ap (λ (t : List ℕ). opening_of t) none ∙ none_of_nothing in
+    cc
+
+-- the text of a log is a whole opening
+log_opening : (bodies : List (List ℕ)) (text : List ℕ) (log : List (Key × Call)) → AreRead bodies text log → text ≢ [] → IsOpeningText text
+log_opening [] text log read some = absurd (some read.0)
+log_opening (body ∷ bodies) text log read some = read.opening
+
+no_line_fault : (text : List ℕ) (line : ℕ) (fault : InputFault) → IsOpeningText text → whole_opening_of text ≡ Err (line, fault) → ⊥
+no_line_fault text line fault opening is =
+    let whole : whole_opening_of text ≡ Ok opening.opening = whole_if_all text opening.opening opening.read (omega (arith, opening.whole)) in
+    cc
+
+-- there is a log, and the input doesn't match it
+pub matches_not : (content input new text : List ℕ) (asks : List (Key × Call)) (rest : List ℕ) (fault : ServeFault) → ReadsAskLog content text asks rest
+    → content ≡ new ++ rest → text ≢ [] → IsMatchFault text input fault → IsFindFault content input fault new
+matches_not content input new text asks rest (Run (run.Input line fault)) read left some is =
+    absurd (no_line_fault text line fault (log_opening read.bodies text asks read.are some) is)
+matches_not content input new text asks rest (Run (run.Strayed node)) read left some is = absurd is
+matches_not content input new text asks rest (Run run.CrewGone) read left some is = absurd is
+matches_not content input new text asks rest (Run run.Device) read left some is = absurd is
+matches_not content input new text asks rest (Run run.OutOfMemory) read left some is =
+    inl (inr (read.bodies, rest, read.reads, read.torn, append_cancel_right new (records read.bodies) rest (sym left ∙ read.reads.whole)))
+matches_not content input new text asks rest ReadBack read left some is = absurd is
+matches_not content input new text asks rest Store read left some is = absurd is
+matches_not content input new text asks rest (PortTaken port) read left some is = absurd is
+matches_not content input new text asks rest (Log fault) read left some is = absurd is
+matches_not content input new text asks rest AnotherOpening read left some is = (text, asks, rest, read, some, is.0, is.1, left)
+
+-- a log's fault again
+pub log_again : {A B : Type 0} (x y : LogFault) → ◌≡◌ {A = Result A ServeFault} (Err (Log x)) (Err (Log y)) → ◌≡◌ {A = Result B LogFault} (Err x) (Err y)
+log_again x y e = let same : x ≡ y = cc in ap (λ (f : LogFault). Err f) same

@@ -1,10 +1,10 @@
-//! The log that is read of a file.
-ghost use Rattle.std.specs.Prelude.{◌≡◌, ◌≢◌, ◌+◌, ◌↔◌, ℕ, List, [], length, false, IfErr, IfOk, IsErrOf};
+//! The log that a file has.
+ghost use Rattle.std.specs.Prelude.{◌≡◌, ◌≢◌, ◌+◌, ◌++◌, ◌↔◌, ℕ, List, [], length, false, IfErr, IfOk, IsErrOf, OnErr};
 ghost use Rattle.sha2.specs.Hashers.{Holds256};
 ghost use Rattle.sb_log.specs.LogFiles.{HasFailed};
 ghost use Rattle.sb_log.specs.declared.log_fault.LogFault.TheVariants.{Device};
 ghost use Rattle.sb_ask_log.specs.LogFile.{log_bytes};
-ghost use Rattle.sb_ask_log.specs.Recovery.{IsReadFault, IsUnchangedIfDamaged, ReadsAskLog};
+ghost use Rattle.sb_ask_log.specs.Recovery.{IsReadFault, IsSameOrCut, IsUnchangedIfDamaged, ReadsAskLog};
 ghost use Rattle.sb_ask_log.specs.Telling.{Tells};
 
 use crate::ask_replay::AskReplay;
@@ -12,9 +12,9 @@ use sb_log::{LogEnd, LogFault, LogFile, read_log, recover};
 use sb_sequencer::Sequencer;
 use std::alloc::Global;
 
-/// What is read of a log's file.
+/// The log that a file has.
 #[derive(Drop)]
-pub struct RecoveredLog {
+pub struct LogInFile {
     /// The opening text. It is empty if the file has no whole first record, and so is no log yet.
     pub text: Vec<u8>,
     /// The asks, numbered.
@@ -23,7 +23,7 @@ pub struct RecoveredLog {
     pub end: LogEnd,
 }
 
-/// ReadsRecords the log of a file. The file stays as it is.
+/// Reads the log of a file. The file stays as it is.
 ///
 /// Memory is taken for the log, and for one batch at a time.
 ///
@@ -32,7 +32,7 @@ pub struct RecoveredLog {
 ///   left,
 /// - [`LogFault::Device`] if a read fails,
 /// - [`LogFault::OutOfMemory`] if memory is refused.
-pub fn read_asks<F: LogFile>(alloc: Global, file: &mut F) -> Result<RecoveredLog, LogFault>
+pub fn read_asks<F: LogFile>(alloc: Global, file: &mut F) -> Result<LogInFile, LogFault>
     ensures honest { F.IsHonest file.old ↔ F.IsHonest file.new }
     ensures content { F.IsHonest file.old → F.content file.new ≡ F.content file.old }
     ensures synced { F.IsHonest file.old → F.synced file.new ≡ F.synced file.old }
@@ -49,19 +49,19 @@ pub fn read_asks<F: LogFile>(alloc: Global, file: &mut F) -> Result<RecoveredLog
     let mut replay = AskReplay::new(alloc)?;
     let end = read_log(alloc, file, &mut replay)?;
     let AskReplay { text, log, .. } = replay;
-    Ok(RecoveredLog { text, log, end })
+    Ok(LogInFile { text, log, end })
 }
 
-/// ReadsRecords the log of a file as [`read_asks`] does, cuts off what follows its records, and has these on
+/// Reads the log of a file as [`read_asks`] does, cuts off what follows its records, and has these on
 /// the disk.
 ///
 /// Fails as [`read_asks`] does, and with [`LogFault::Device`] if another call of the file fails. If it
-/// is damaged, nothing is changed.
-pub fn recover_asks<F: LogFile>(alloc: Global, file: &mut F) -> Result<RecoveredLog, LogFault>
+/// is damaged, nothing is changed. After another fault what follows its records may be cut off.
+pub fn recover_asks<F: LogFile>(alloc: Global, file: &mut F) -> Result<LogInFile, LogFault>
     ensures honest { F.IsHonest file.old ↔ F.IsHonest file.new }
     ensures read { F.IsHonest file.old → IfOk result (λ found. (rest : List ℕ)
         × ReadsAskLog (F.content file.old) found.text.items found.log.value.log rest
-        × (found.end.torn ≡ length rest)) }
+        × (found.end.torn ≡ length rest) × (F.content file.old ≡ F.content file.new ++ rest)) }
     // Whatever the file holds, the hasher holds the log that is answered.
     ensures holds { IfOk result (λ found. found.text.items ≢ []
         → Holds256 found.end.hasher (log_bytes found.text.items found.log.value.log)) }
@@ -73,11 +73,12 @@ pub fn recover_asks<F: LogFile>(alloc: Global, file: &mut F) -> Result<Recovered
     ensures fault { F.IsHonest file.old → IfErr result (IsReadFault (F.content file.old)) }
     ensures damaged { F.IsHonest file.old → IfErr result (λ fault. IsUnchangedIfDamaged fault
         (F.content file.old) (F.synced file.old) (F.content file.new) (F.synced file.new)) }
+    ensures stays { F.IsHonest file.old → OnErr result (IsSameOrCut (F.content file.old) (F.content file.new)) }
     ensures device { IsErrOf result Device
         → HasFailed (F.has_failed file.new) (F.IsHonest file.old) (F.content file.old) }
 {
     let mut replay = AskReplay::new(alloc)?;
     let end = recover(alloc, file, &mut replay)?;
     let AskReplay { text, log, .. } = replay;
-    Ok(RecoveredLog { text, log, end })
+    Ok(LogInFile { text, log, end })
 }
