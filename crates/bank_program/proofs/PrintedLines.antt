@@ -85,7 +85,9 @@ module _ {T : Type 0} (sends : T → Option (List ℕ)) where
   -- the port, the sessions, and the rows of the bank that is left
   pub serves_bank : {S K : Type 0} (opening : K → Option (List ℕ)) (first opened last : PrimaryOf S K) (count : ℕ) (at : Option ℕ)
       (coming left : Option (List T)) (a b c d e f : Option (List ℕ))
-      → IsSameBank first last → opening opened.keeper ≡ opening first.keeper → opening last.keeper ≡ opening first.keeper → opened.log ≡ first.log → PrintsLog opening opened a b → PrintsPort at b c
+      → IsSameBank first last
+      → opening opened.keeper ≡ opening first.keeper → opening last.keeper ≡ opening first.keeper
+      → opened.log ≡ first.log → PrintsLog opening opened a b → PrintsPort at b c
       → ServesAll sends count coming left opened.log last.log c d → PrintsLog opening last d e → PrintsRows last e f
       → ServesBank sends first.node.names first.node.board.opening count at coming first.log last.log (opening first.keeper) a f
   serves_bank opening first opened last count at coming left a b c d e f same text text_then same_log first_line (port, listens, start) served last_line rows =

@@ -24,7 +24,7 @@ use bank_server::Primary;
 use cown_workers::InlineCrew;
 use itoa::Buffer;
 use sb_amount::{Cents, print};
-use sb_ask_log::{NoKeeper, LogInFile, read_asks};
+use sb_ask_log::{LogInFile, NoKeeper, read_asks};
 use sb_calls::{Call, Key};
 use sb_checkpoint::MemoryStore;
 use sb_log::LogFile;

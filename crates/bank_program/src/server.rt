@@ -132,8 +132,8 @@ where
         ensures served { OnOk result (ServesAll D.Stream.remaining self.old.plan.sessions
             (D.coming self.old.listener) (D.coming self.new.listener) self.old.primary.log self.new.primary.log
             (W.contents self.old.writer) (W.contents self.new.writer)) }
-        ensures bank_after { OnOk result (IsBankAfter S.model K.Keeps K.opening self.old.plan.saves self.old.plan.sessions
-            self.old.primary self.new.primary) }
+        ensures bank_after { OnOk result (IsBankAfter S.model K.Keeps K.opening self.old.plan.saves
+            self.old.plan.sessions self.old.primary self.new.primary) }
         ensures nodes { followers.new.nodes ≡ followers.old.nodes }
         ensures plan { self.new.plan ≡ self.old.plan }
         ensures fault { IfErr result (IsFinishFault (C.keeps ≡ true) self.old.plan.saves K.fails) }

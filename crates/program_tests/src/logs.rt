@@ -120,7 +120,8 @@ fn a_torn_rest_is_counted(rt: HostRuntime) {
     let bytes = kept(&rt, alloc);
     for torn in [0, 1, 8, 40, 87] {
         let mut file = file_of(&rt, alloc, &bytes);
-        file.append(&bytes[..torn.min(bytes.len())]).expect(&rt, "memory");
+        file.append(&bytes[..torn.min(bytes.len())])
+            .expect(&rt, "memory");
         let found = find_bank(alloc, &mut file, b"").expect(&rt, "a bank's log");
         assert_eq!(rt; found.cut, torn);
         assert!(rt; file.bytes() == bytes.as_slice(), "what is left");

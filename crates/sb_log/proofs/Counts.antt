@@ -1,9 +1,9 @@
 -- What counting the rest of a file keeps.
-use Rattle.std.proofs.Common.{◌≡◌, ℕ, ◌+◌, ◌<◌, ◌≤◌, ◌↔◌, IsTrue, Bool, true, List, [], ◌++◌, length, take, drop, min, refl, sym, ap, subst, ◌∙◌, arith, length-drop, length-take}
+use Rattle.std.proofs.Common.{◌≡◌, ℕ, ◌+◌, ◌<◌, ◌≤◌, ◌↔◌, IsTrue, Bool, List, [], ◌++◌, length, take, drop, min, sym, ap, subst, ◌∙◌, arith, length-drop, length-take}
 use Rattle.std.specs.List.{All}
 use Rattle.std.proofs.Math.Seq.{take-append-add}
 use Rattle.std.proofs.lemmas.List.{drop-drop, drop_at, take_all, take_min, take-append-drop, take-append-le}
-use Rattle.std.proofs.lemmas.List.Elements.{All-append, All-drop, All-nil, All-take}
+use Rattle.std.proofs.lemmas.List.Elements.{All-append, All-drop, All-take}
 
 abbrev pub IsBlank : List ℕ → Type 0
 IsBlank bytes = All (λ byte. byte ≡ 0) bytes

@@ -1,5 +1,5 @@
 -- What the calls of a log do, as events of its file's life.
-use Rattle.std.specs.Prelude.{◌≡◌, ◌⊎◌, ℕ, Bool, false, not, Result, Ok, Err, List, [], ◌∷◌, ◌++◌, drop, length}
+use Rattle.std.specs.Prelude.{◌≡◌, ◌⊎◌, ℕ, Bool, false, not, Result, Ok, Err, List, [], ◌∷◌, ◌++◌, length}
 use Rattle.sha2.specs.declared.Sha256.{Sha256}
 use Rattle.sha2.specs.Hashers.{Holds256}
 use Rattle.sb_log.specs.Lives.{Append, AppendFails, Cut, Happens, HappensAll, Life, ReadBack, Sync, SyncFails, newborn}

@@ -15,8 +15,8 @@ body_of head_bytes items longer all text size is more whole =
 
 pub returns-in_err-end-clause-part : goal.returns-in_err-end-clause-part
 returns-in_err-end-clause-part g c honest =
-    let body = body_of _ c.in_ok-record.record.items c.extend_from_slice.new.self.items c.deref_mut.result.now c.args.text.items refl c.in_ok-record.ensures.items
-    c.in_ok-extend_from_slice.ensures.items
+    let body = body_of _ c.in_ok-record.record.items c.extend_from_slice.new.self.items c.deref_mut.result.now c.args.text.items refl
+    c.in_ok-record.ensures.items c.in_ok-extend_from_slice.ensures.items
     (c.deref_mut.ensures.value ∙ c.in_ok-extend_from_slice-2.ensures.items
     ∙ ap (λ (l : List ℕ). c.extend_from_slice.new.self.items ++ l) c.deref.ensures.value) in
     let life = c.in_err-end.ensures.life honest in
@@ -26,8 +26,8 @@ returns-in_err-end-clause-part g c honest =
 
 pub returns-clause-told : goal.returns-clause-told
 returns-clause-told g c honest =
-    let body = body_of _ c.in_ok-record.record.items c.extend_from_slice.new.self.items c.deref_mut.result.now c.args.text.items refl c.in_ok-record.ensures.items
-    c.in_ok-extend_from_slice.ensures.items
+    let body = body_of _ c.in_ok-record.record.items c.extend_from_slice.new.self.items c.deref_mut.result.now c.args.text.items refl
+    c.in_ok-record.ensures.items c.in_ok-extend_from_slice.ensures.items
     (c.deref_mut.ensures.value ∙ c.in_ok-extend_from_slice-2.ensures.items
     ∙ ap (λ (l : List ℕ). c.extend_from_slice.new.self.items ++ l) c.deref.ensures.value) in
     let life = c.in_ok-end.ensures.life honest in

@@ -1,5 +1,4 @@
 use Rattle.std.proofs.Common.{◌≡◌, ◌++◌, ◌∷◌, [], List, ℕ, Result, Err, length, length-drop, drop, take, refl, sym, ap, subst, ◌∙◌, arith, inl, inr, true, false}
-use Rattle.sha2.specs.Hashers.{Holds256}
 use Rattle.sb_log.specs.Lives.{Life}
 use Rattle.sb_log.specs.LogCalls.{DoesCreate}
 use Rattle.sb_log.specs.Records.{record_after}
@@ -66,7 +65,8 @@ returns-clause-life g c honest =
     let there = c.append.ensures.honest.0 honest in
     let whole = on_ok c.append.result _ (sym c.is_err.ensures.value ∙ c.if-is_err.false) (c.append.ensures.appended honest) in
     let content : g.F.LogFile.content c.append.new.self ≡ record_after [] body =
-    behind_nothing (g.F.LogFile.content c.args.file.now) (g.F.LogFile.content c.append.new.self) c.write_head.new.bytes (record_after [] body) empty.0 bytes whole in
+    behind_nothing (g.F.LogFile.content c.args.file.now) (g.F.LogFile.content c.append.new.self) c.write_head.new.bytes (record_after [] body) empty.0 bytes
+    whole in
     let told : Life = record (first_appended body) { synced = length (record_after [] body); told = body ∷ [] } in (
       told,
       (first_appended body, (refl, c.requires.body, refl), (told, (refl, refl), refl)),

@@ -32,9 +32,11 @@ loop-before-preserved g c =
           (g.W.Write.contents c.args.self.now.writer) (g.W.Write.contents c.loop-before.self.writer) (g.W.Write.contents c.serve_next.new.self.writer)
           kept.served next.served;
       within = omega (arith, c.loop-before-test.true);
-      left = left_after_next g.S.CheckpointStore.model g.K.Keeper.Keeps g.K.Keeper.opening c.args.self.now.plan.saves c.loop-before.before c.args.self.now.primary
+      left = left_after_next g.S.CheckpointStore.model g.K.Keeper.Keeps g.K.Keeper.opening c.args.self.now.plan.saves c.loop-before.before
+          c.args.self.now.primary
           c.loop-before.self.primary c.serve_next.new.self.primary kept.left
-          (subst (λ (plan : Plan). IsBankAfter g.S.CheckpointStore.model g.K.Keeper.Keeps g.K.Keeper.opening plan.saves 1 c.loop-before.self.primary c.serve_next.new.self.primary)
+          (subst (λ (plan : Plan).
+          IsBankAfter g.S.CheckpointStore.model g.K.Keeper.Keeps g.K.Keeper.opening plan.saves 1 c.loop-before.self.primary c.serve_next.new.self.primary)
           kept.plan next.bank_after);
       plan = c.serve_next.ensures.plan ∙ kept.plan;
       nodes = c.serve_next.ensures.nodes ∙ kept.nodes;
