@@ -1,4 +1,4 @@
-use Rattle.std.proofs.Common.{sym, ap, ◌∙◌, refl}
+use Rattle.std.proofs.Common.{sym, ◌∙◌}
 use Rattle.cown_board.proofs.LogLaws.{injective as some_is}
 use Rattle.schedule_player.proofs.agreement.have_same_reply.Goals as goal
 
