@@ -28,8 +28,8 @@ fn have_same_reply(one: Option<Reply>, other: Option<Reply>) -> bool
 }
 
 impl World {
-    /// Asks the boards of two replicas for their replies to a number. Answers whether they are the
-    /// same, if neither is missing.
+    /// Asks the boards of two replicas for their replies to a number, and answers whether these are
+    /// the same. It is also `true` if a board has none.
     pub fn replies_agree(&self, a: u32, b: u32, number: u64) -> bool
         requires replicas { (a < length self.now.nodes) × (b < length self.now.nodes) }
         // They are the same, whatever happened.
@@ -45,8 +45,8 @@ impl World {
         have_same_reply(self.reply(a, number), self.reply(b, number))
     }
 
-    /// Asks the boards of two replicas for their columns. Answers whether these are the same, place
-    /// by place, if both replicas are idle and of one length.
+    /// Asks the boards of two replicas for their columns, and answers whether these are the same at
+    /// every place. It is also `true` if a replica isn't idle, or their lengths differ.
     pub fn rows_agree(&self, a: u32, b: u32) -> bool
         requires replicas { (a < length self.now.nodes) × (b < length self.now.nodes) }
         // They are the same, whatever happened.
