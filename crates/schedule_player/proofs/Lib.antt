@@ -29,6 +29,7 @@ pub mod ReceivedFrames
 pub mod RecordedLengths
 pub mod ReplicationLaw
 pub mod Runnable
+pub mod SameAnswers
 pub mod SentEntries
 pub mod SentFrames
 pub mod SettledWorlds

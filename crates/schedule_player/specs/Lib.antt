@@ -1,3 +1,4 @@
+pub mod Agreement
 pub mod Bank
 pub mod Books
 pub mod EventLists

@@ -11,11 +11,10 @@ BlamesSchedule (Input line fault) read = read ≡ Err (line, fault)
 BlamesSchedule Device read = Unit {0}
 BlamesSchedule OutOfMemory read = Unit {0}
 
--- after a line's fault nothing was written
-abbrev pub WritesNothing : ScheduleFault → Option (List ℕ) → Option (List ℕ) → Type 0
-WritesNothing (Input line fault) old new = Keeps old new
-WritesNothing Device old new = Unit {0}
-WritesNothing OutOfMemory old new = Unit {0}
+-- unless a device failed, nothing was written
+abbrev pub LeavesWriter : ScheduleFault → Option (List ℕ) → Option (List ℕ) → Type 0
+LeavesWriter Device old new = Unit {0}
+LeavesWriter other old new = Keeps old new
 
 -- the number of a schedule's fault
 abbrev pub schedule_fault_number : ScheduleFault → ℕ

@@ -1,5 +1,5 @@
 //! Compares two replicas with each other, and one of them with the books.
-ghost use Rattle.std.specs.Prelude.{◌≡◌, ◌<◌, ◌≤◌, Some, None, length, take, slice_get, IfOk, OnErr};
+ghost use Rattle.std.specs.Prelude.{◌≡◌, ◌<◌, ◌≤◌, ◌↔◌, Some, None, length, take, slice_get, IfOk, OnErr};
 ghost use Rattle.sb_rows.specs.Balances.{IsBalances};
 ghost use Rattle.sb_calls.specs.Log.{replies_to};
 ghost use Rattle.schedule_player.specs.Bank.{opening_rows};
@@ -15,13 +15,13 @@ use sb_calls::Reply;
 use sb_rows::Columns;
 use schedule_text::{AuditNote, Column};
 
-// The first place at which two banks' columns differ; savings come before checking balances.
-fn first_place(left: &Columns, right: &Columns) -> Option<(Column, usize)>
+/// The first place at which two banks' columns differ; savings come before checking balances.
+pub(crate) fn first_place(left: &Columns, right: &Columns) -> Option<(Column, usize)>
     requires savings { length left.now.savings ≡ length right.now.savings }
     requires checking { length left.now.checking ≡ length right.now.checking }
-    ensures { left.now ≡ right.now → result ≡ None }
+    ensures { (result ≡ None) ↔ (left.now ≡ right.now) }
 {
-    // The law says that what is found is a first difference.
+    // The law says that what is found is a first difference, and that without one they are equal.
     least_difference();
     if let Some(place) = first_difference(left.savings(), right.savings()) {
         return Some((Column::Savings, place));

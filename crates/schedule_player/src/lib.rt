@@ -2,6 +2,7 @@
 #![tactic(auto)]
 
 mod adopting;
+mod agreement;
 mod auditing;
 mod events;
 mod fault;

@@ -3,7 +3,7 @@ ghost use Rattle.std.specs.Prelude.{◌≡◌, List, IfSome, IfErr, OnOk, MatchR
 ghost use Rattle.sb_rows.specs.Text.{unlines};
 ghost use Rattle.schedule_player.specs.EventLists.{PlaysEvents};
 ghost use Rattle.schedule_player.specs.RunText.{HasOutput, WritesOutput, played_lines};
-ghost use Rattle.schedule_player.specs.ScheduleFaults.{BlamesSchedule, WritesNothing};
+ghost use Rattle.schedule_player.specs.ScheduleFaults.{BlamesSchedule, LeavesWriter};
 ghost use Rattle.schedule_player.specs.inner.FaultConversions.{BlamesScheduleText};
 ghost use Rattle.schedule_player.specs.declared.fault.ScheduleFault.TheVariants as faults;
 ghost use Rattle.schedule_text.specs.ScheduleText.{schedule_of};
@@ -22,10 +22,12 @@ use std::io::{Read, Write};
 /// replica.
 ///
 /// The whole schedule is read and checked before the first event. Fails with
-/// - [`ScheduleFault::Input`] at the first line at fault; nothing was written then,
+/// - [`ScheduleFault::Input`] at the first line at fault,
 /// - [`ScheduleFault::Device`] if a read or a write fails, or if the input takes more than
-///   [`sb_text::READS`] reads; part of the output may be written then,
+///   [`sb_text::READS`] reads,
 /// - [`ScheduleFault::OutOfMemory`] if memory is refused.
+///
+/// After [`ScheduleFault::Device`] part of the output may be written, after all others nothing.
 pub fn run_schedule<R: Read, W: Write>(
     alloc: Global,
     reader: &mut R,
@@ -37,9 +39,9 @@ pub fn run_schedule<R: Read, W: Write>(
     // A line's fault is the first of the input.
     ensures first { IfErr result (λ fault. IfSome (R.remaining reader.old) (λ input.
         BlamesSchedule fault (schedule_of input))) }
-    // Nothing was written after a line's fault.
+    // Nothing was written, unless a device failed.
     ensures unwritten { IfErr result (λ fault.
-        WritesNothing fault (W.contents writer.old) (W.contents writer.new)) }
+        LeavesWriter fault (W.contents writer.old) (W.contents writer.new)) }
 {
     let input = read_all(alloc, reader)?;
     let output = output_text(alloc, &input)?;

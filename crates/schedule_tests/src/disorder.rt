@@ -36,7 +36,7 @@ fn comes(rt: &impl Abort, world: &mut World, position: u32, accepted: u32) -> u3
 }
 
 // The next number of a linear generator.
-fn step(random: u32) -> u32 {
+pub(crate) fn step(random: u32) -> u32 {
     ((u64::from(random) * 75 + 74) % 65_537) as u32
 }
 

@@ -1,6 +1,6 @@
 //! The largest world: sixteen replicas of sixteen workers, each of which takes a job and finishes
 //! it.
-use crate::worlds::{all_happen, stands_at, world_over};
+use crate::worlds::{agree, all_happen, stands_at, world_over};
 use sb_calls::{Reply, read_call};
 use schedule_player::{AuditNote, Event, Note, World};
 use std::process::Abort;
@@ -94,6 +94,7 @@ fn each_hand_of_the_largest_world(rt: HostRuntime) {
         finishes_each(&rt, &mut world, replica);
         stands_at(&rt, &world, replica, 16, true);
     }
+    agree(&rt, &world, 0, 15, 16);
     all_happen(
         &rt,
         &mut world,

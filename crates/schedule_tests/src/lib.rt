@@ -2,6 +2,8 @@
 #![tactic(auto)]
 
 #[cfg(test)]
+mod agreement;
+#[cfg(test)]
 mod audits;
 #[cfg(test)]
 mod breaks;

@@ -70,6 +70,18 @@ pub(crate) fn replies(
     assert!(rt; world.reply(replica, number) == reply, "{replica} {number}");
 }
 
+// Checks that two replicas agree on each number up to this one, and on their rows.
+pub(crate) fn agree(rt: &impl Abort, world: &World, one: u32, other: u32, numbers: u64) {
+    assert!(rt; one < world.replicas() && other < world.replicas());
+    assert!(rt; world.rows_agree(one, other), "{one} {other}");
+    for number in 0..=numbers {
+        assert!(rt;
+            world.replies_agree(one, other, number),
+            "{one} {other} {number}"
+        );
+    }
+}
+
 // Client 1 asks for this call this many times, each time as a new request.
 pub(crate) fn asks(rt: &impl Abort, world: &mut World, count: u32, line: &str) {
     let call = read_call(line.as_bytes()).expect(rt, "a call");

@@ -92,7 +92,7 @@ first_place-requires-clause-checking c = ap (λ b. length b.checking) (same_colu
 -- so no place differs
 pub returns-in-Some-first_place-clause-value : goal.returns-in-Some-first_place-clause-value
 returns-in-Some-first_place-clause-value c one other seen_one seen_other =
-    absurd (none_some (sym (c.first_place.ensures (same_columns (goal.at.returns-in-Some-first_place-clause-value c).Else-length))
+    absurd (none_some (sym (c.first_place.ensures.1 (same_columns (goal.at.returns-in-Some-first_place-clause-value c).Else-length))
     ∙ c.in-Some-first_place.is))
 
 -- memory may be refused for the replies, and for the books
