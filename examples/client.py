@@ -64,8 +64,8 @@ def call(line):
     return bytes([kind]) + b"".join(map(field, fields, words))
 
 
-class BadLine(Exception):
-    """A line at fault, and why."""
+class BadLine(SystemExit):
+    """A line at fault, which has been told, ends the program."""
 
 
 class Failure(Exception):
@@ -81,8 +81,21 @@ def named(what):
         raise Failure(what, error) from error
 
 
-def lines_as_they_come(size):
-    """The lines of standard input: at most so many at a time, and at least those that are there."""
+def asks(text, client, first, place=1):
+    """The request number and the Ask frame of each line of a text, whose first line has this place in the input."""
+    for place, line in enumerate(text.removesuffix(b"\n").split(b"\n") if text else [], place):
+        try:
+            if first not in NUMBERS:
+                raise ValueError("no request number is left")
+            yield first, frame(ASK.pack(TAG_ASK, client, first) + call(line))
+        except ValueError as fault:
+            print(f"client: line {place}: {fault}", file=sys.stderr)
+            raise BadLine(2) from fault
+        first += 1
+
+
+def texts(size):
+    """Standard input as it comes, by whole lines: at most so many at a time, and at least those that are there."""
     rest = b""
     while True:
         with named("standard input"):
@@ -90,7 +103,7 @@ def lines_as_they_come(size):
         *lines, rest = (rest + piece).split(b"\n")
         if rest and not piece:
             lines.append(rest)
-        yield from (lines[start : start + size] for start in range(0, len(lines), size))
+        yield from (b"".join(line + b"\n" for line in lines[start : start + size]) for start in range(0, len(lines), size))
         if not piece:
             return
 
@@ -98,18 +111,16 @@ def lines_as_they_come(size):
 def batches(options):
     """The Ask frames of each batch. A line at fault ends them, behind those of the lines before it."""
     place = 0
-    for lines in lines_as_they_come(options.flush):
+    for text in texts(options.flush):
         asked = []
-        for place, line in enumerate(lines, place + 1):
-            request = options.first + place - 1
-            try:
-                if request not in NUMBERS:
-                    raise ValueError("no request number is left")
-                asked.append(frame(ASK.pack(TAG_ASK, options.client, request) + call(line)))
-            except ValueError as fault:
-                if asked:
-                    yield asked
-                raise BadLine(f"line {place}: {fault}") from fault
+        try:
+            for _, ask in asks(text, options.client, options.first + place, place + 1):
+                asked.append(ask)
+                place += 1
+        except BadLine:
+            if asked:
+                yield asked
+            raise
         yield asked
 
 
@@ -181,7 +192,7 @@ def run(options):
     """Asks all lines, and answers the exit status."""
     asked, bad = batches(options), None
     # If the first line is at fault, nobody is asked.
-    first = next(asked, None)
+    first = next(asked, [])
     with named(f"{options.host}:{options.port}"), socket.create_connection((options.host, options.port)) as connection:
         session = Session(connection, options)
         try:
@@ -201,9 +212,6 @@ def main():
         if sys.stdin is None or sys.stdout is None:
             raise Failure(OUTPUT if sys.stdin else "standard input", OSError(errno.EBADF, os.strerror(errno.EBADF)))
         sys.exit(run(options))
-    except BadLine as fault:
-        print(f"client: {fault}", file=sys.stderr)
-        sys.exit(2)
     except Failure as fault:
         what, error = fault.args
         # Who reads no more wants no word of it.
