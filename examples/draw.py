@@ -3,7 +3,7 @@
 
 OUTPUT is what `smallbank play` gives for SCHEDULE; docs/FORMATS.md describes both. The sequencer and the replicas are columns,
 time goes down, and each event has a row. Events that come again and again with other numbers share their rows, with how often
-they came. A line that can't be read is told with its number, and ends the program with status 1."""
+they came. A line that can't be read is told with its number, and ends the program with status 1; an output that fails, with 3."""
 import argparse
 import re
 import sys
@@ -420,7 +420,18 @@ def main():
         picture = Picture(schedule)
     except (Fault, OSError) as fault:
         sys.exit(f"draw: {fault}")
-    sys.stdout.buffer.write(picture.draw(options.schedule.stem.replace("_", " ").capitalize()).encode(errors="replace"))
+    write_out(picture.draw(options.schedule.stem.replace("_", " ").capitalize()).encode(errors="replace"))
+
+
+def write_out(data):
+    """Writes to standard output. An output that fails ends the program with status 3, and one that was closed without a word."""
+    try:
+        with open(1, "wb", closefd=False) as output:
+            output.write(data)
+    except OSError as fault:
+        if not isinstance(fault, BrokenPipeError):
+            print(f"draw: standard output: {fault.strerror}", file=sys.stderr)
+        sys.exit(3)
 
 
 if __name__ == "__main__":

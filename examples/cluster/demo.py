@@ -240,7 +240,8 @@ def main() -> None:
     try:
         demo = run(options, folder)
     except (*FAULTS, KeyboardInterrupt) as fault:
-        sys.exit(f"demo: {fault or 'interrupted'}\ndemo: what was started is stopped; what it wrote is in {folder}")
+        why = "it was interrupted" if isinstance(fault, KeyboardInterrupt) else str(fault) or type(fault).__name__
+        sys.exit(f"demo: {why}\ndemo: what was started is stopped; what it wrote is in {folder}")
     if options.measures:
         options.measures.write_text(json.dumps(demo.measures))
     if options.keep:
