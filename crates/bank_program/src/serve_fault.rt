@@ -31,7 +31,8 @@ pub enum ServeFault {
     /// The log can't be read or kept. What clients were told is in its file.
     #[error("log: {0}")]
     Log(LogFault),
-    /// The input is another opening than the log's. The log keeps all its asks; a torn rest may be cut off.
+    /// The input is another opening than the log's. The log keeps all its asks; a torn rest may be
+    /// cut off.
     #[error("log: another opening")]
     AnotherOpening,
 }
