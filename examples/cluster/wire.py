@@ -118,6 +118,15 @@ def read_batch(value: bytes) -> list[Ask]:
     return asks
 
 
+def frames(value: bytes) -> Iterator[bytes]:
+    """Each frame of bytes that are whole frames."""
+    place = 0
+    while place < len(value):
+        end = place + 2 + int.from_bytes(value[place : place + 2], "big")
+        yield value[place:end]
+        place = end
+
+
 def heads(value: bytes) -> Iterator[tuple[int, int]]:
     """Client and request of each Ask of bytes that are whole Ask frames."""
     place = 0
