@@ -147,7 +147,8 @@ class Etcd:
         try:
             self.connection.request("POST", path, json.dumps(body), self.headers())
             response = self.connection.getresponse()
-            answer = json.loads(response.read())
+            said = response.read()
+            answer = json.loads(said) if response.status != 400 or said.startswith(b"{") else {"code": 3, "message": said.decode()}
         except (OSError, http.client.HTTPException, ValueError) as fault:
             self.drop()
             raise Unanswered(f"{where}: {fault or type(fault).__name__}") from None
