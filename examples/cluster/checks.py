@@ -4,7 +4,10 @@ import subprocess
 from typing import NamedTuple
 
 import log
+import pieces
 import wire
+from crowd import Told
+from fleet import Node
 from wire import client
 
 
@@ -19,9 +22,33 @@ class Played(NamedTuple):
     rows: list[str]
 
 
-def asks_of(entries: list[log.Entry]) -> list[wire.Ask]:
+class Checked(NamedTuple):
+    """A log that was found to be as it should, and what it is."""
+
+    book: log.Log
+    asks: list[wire.Ask]
+    outcomes: bytes
+    checkpoint: bytes
+    played: Played
+
+    def by_frame(self) -> dict[bytes, bytes]:
+        """The outcome of each ask. The same ask has the same one wherever it is in the log."""
+        frames = map(wire.encode, self.asks)
+        return {frame: self.outcomes[place * SIZE : (place + 1) * SIZE] for place, frame in enumerate(frames)}
+
+    def says(self) -> str:
+        requests = len(wire.read_checkpoint(self.checkpoint).replies)
+        mismatches = sum(answer.startswith("mismatch") for answer in self.played.answers)
+        return (f"the log {self.book.prefix} has {len(self.asks)} asks: {requests} requests, "
+                f"{len(self.asks) - requests - mismatches} repeats and {mismatches} mismatches")
+
+
+SIZE = client.OUTCOME.size
+
+
+def asks_of(book: log.Log) -> list[wire.Ask]:
     """All Asks of a log whose batches are good ones."""
-    return [ask for entry in entries for ask in wire.read_batch(entry.value)]
+    return [ask for entry in book.read()[0] if entry.key != book.closing for ask in wire.read_batch(entry.value)]
 
 
 def run(program: pathlib.Path, opening: bytes, asks: list[wire.Ask]) -> Played:
@@ -75,6 +102,32 @@ def check_by_run(asks: list[wire.Ask], outcomes: bytes, checkpoint: bytes, openi
     numbered = dict(answer.split(" ", 1) for answer in played.answers if answer[0].isdecimal())
     replies = {f"{number}": spell_reply(*reply) for number, reply in enumerate(saved.replies, 1)}
     expect(replies == numbered, "the checkpoint's replies are a run's, by their numbers")
+
+
+def check_log(book: log.Log, nodes: list[Node], program: pathlib.Path) -> Checked:
+    """A log that all these nodes have: the same bytes, and those of a run. No session ends meanwhile."""
+    asks, opening = asks_of(book), pieces.get(book, "opening")
+    outcomes = same([node.place(book.prefix).outcomes for node in nodes], "outcomes")
+    checkpoint = same([node.place(book.prefix).checkpoint for node in nodes], "checkpoints")
+    played = run(program, opening, asks)
+    check_by_run(asks, outcomes, checkpoint, opening, played)
+    return Checked(book, asks, outcomes, checkpoint, played)
+
+
+def check_next(first: Checked, second: Checked) -> None:
+    """The next log begins with the rows of the first one, and has none of its requests."""
+    opening = pieces.get(second.book, "opening").decode().splitlines()
+    expect(opening == [*first.played.rows[:-1], "begin"], "the next log's opening is the rows of a run of the first one")
+    both = {ask[:2] for ask in first.asks} & {ask[:2] for ask in second.asks}
+    expect(not both, f"no request of the first log is in the next one: {sorted(both)[:3]}")
+
+
+def check_crowd(told: list[Told], logs: list[Checked]) -> int:
+    """What a crowd was told: how many outcomes that is, all of them as in the logs."""
+    right = {frame: outcome for each in logs for frame, outcome in each.by_frame().items()}
+    for each in told:
+        expect(right.get(each.ask) == each.outcome, f"a client of a gateway has the log's outcome of {each.ask.hex()}")
+    return len(told)
 
 
 def check_submitters(submitters: list[tuple[pathlib.Path, int, bytes]], asks: list[wire.Ask], outcomes: bytes) -> int:

@@ -49,6 +49,11 @@ def encode_ask(number: int, request: int, line: bytes) -> bytes:
     return client.frame(client.ASK.pack(client.TAG_ASK, number, request) + client.call(line))
 
 
+def encode(ask: Ask) -> bytes:
+    """The Ask frame of an ask."""
+    return client.frame(client.ASK.pack(client.TAG_ASK, ask.client, ask.request) + ask.call)
+
+
 def spell_call(call: bytes) -> bytes:
     """The line of a call. Bytes that are no call are a ValueError, for just those that end a bank's session."""
     if not call or call[0] not in VERBS:
