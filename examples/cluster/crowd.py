@@ -114,4 +114,6 @@ def ask_all(gateway: tuple[str, int], context: ssl.SSLContext | None, frames: li
             connection = stack.enter_context(context.wrap_socket(connection, server_hostname=gateway[0]))
         connection.sendall(b"".join(frames) + wire.FLUSH)
         told = connection.makefile("rb").read(len(frames) * wire.client.OUTCOME.size)
+    if len(told) < len(frames) * wire.client.OUTCOME.size:
+        raise OSError("the gateway hung up")
     return told
