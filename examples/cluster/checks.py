@@ -60,17 +60,6 @@ def run(program: pathlib.Path, opening: bytes, asks: list[wire.Ask]) -> Played:
     return Played(printed[: len(asks)], printed[len(asks) :])
 
 
-def spell_reply(code: int, total: int) -> str:
-    words = client.WORDS[0, code]
-    return words if words != "shown" else f"shown {wire.money(total)}"
-
-
-def spell_outcomes(outcomes: bytes) -> list[str]:
-    """The outcomes as a client is told them."""
-    read = client.OUTCOME.iter_unpack(outcomes)
-    return [spell_reply(code, total) if status == 0 else client.WORDS[status, code] for *_, status, code, total in read]
-
-
 def told_by(answer: str) -> str:
     """What a client is told whose ask a run answers by this line: the number in the log isn't told."""
     first, rest = answer.split(" ", 1)
@@ -93,14 +82,14 @@ def expect(holds: bool, what: str) -> None:
 
 def check_by_run(asks: list[wire.Ask], outcomes: bytes, checkpoint: bytes, opening: bytes, played: Played) -> None:
     """Outcomes and checkpoint against a run of the log: replies one by one, rows, and the replies that are saved."""
-    expect([told_by(answer) for answer in played.answers] == spell_outcomes(outcomes), "the outcomes are a run's replies")
+    expect([told_by(answer) for answer in played.answers] == wire.spell_outcomes(outcomes), "the outcomes are a run's replies")
     saved = wire.read_checkpoint(checkpoint)
     names = [line.split(" ")[0] for line in opening.decode().splitlines()[:-1]]
     rows = [f"{name} {wire.money(savings)} {wire.money(checking)}"
             for name, savings, checking in zip(names, saved.savings, saved.checking)]
     expect(rows + [f"total {wire.money(saved.total)}"] == played.rows, "the checkpoint's balances are a run's rows")
     numbered = dict(answer.split(" ", 1) for answer in played.answers if answer[0].isdecimal())
-    replies = {f"{number}": spell_reply(*reply) for number, reply in enumerate(saved.replies, 1)}
+    replies = {f"{number}": wire.spell_reply(*reply) for number, reply in enumerate(saved.replies, 1)}
     expect(replies == numbered, "the checkpoint's replies are a run's, by their numbers")
 
 
@@ -133,7 +122,7 @@ def check_crowd(told: list[Told], logs: list[Checked]) -> int:
 def check_submitters(submitters: list[tuple[pathlib.Path, int, bytes]], asks: list[wire.Ask], outcomes: bytes) -> int:
     """What submitters printed that were given these lines under a client's number: how many outcomes that is, all of them
     as in the log. The same ask has the same outcome wherever it is in the log."""
-    spelled = dict(zip(asks, spell_outcomes(outcomes)))
+    spelled = dict(zip(asks, wire.spell_outcomes(outcomes)))
     count = 0
     for output, number, lines in submitters:
         frames = b"".join(wire.encode_ask(number, *each) for each in enumerate(lines.splitlines(), 1))

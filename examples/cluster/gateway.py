@@ -7,10 +7,12 @@ knows is in etcd. So when it's killed, a client asks again, here or at another g
 import argparse
 import asyncio
 import os
+import resource
 import signal
 import ssl
 import sys
 import time
+import traceback
 from concurrent.futures import ThreadPoolExecutor
 
 import log
@@ -61,7 +63,8 @@ class Gateway:
         await self.loop.run_in_executor(None, self.putter.begin)
         with ThreadPoolExecutor(1) as thread:
             while True:
-                batch = await self.gather.take()
+                if not (batch := await self.gather.take()):
+                    continue
                 self.putting = True
                 put = await self.loop.run_in_executor(thread, self.putter.put, batch)
                 self.putting = False
@@ -147,7 +150,19 @@ async def run(options: argparse.Namespace, tell: Tell) -> None:
     tell(f"listening {host}:{server.sockets[0].getsockname()[1]}")
     puts = asyncio.create_task(gateway.put_all())
     await asyncio.wait([puts, gateway.failed], return_when=asyncio.FIRST_COMPLETED)
-    (puts if puts.done() else gateway.failed).result()
+    try:
+        (puts if puts.done() else gateway.failed).result()
+    except (LogError, OSError) as fault:
+        tell(str(fault))
+    except Exception:
+        traceback.print_exc()
+    end(1)
+
+
+def end(status: int) -> None:
+    """Ends the program at once: a thread may wait for etcd for ever."""
+    sys.stderr.flush()
+    os._exit(status)
 
 
 def main() -> None:
@@ -165,15 +180,16 @@ def main() -> None:
     except OSError as fault:
         words.error(str(fault))
     tell = messages.teller("gateway")
-    signal.signal(signal.SIGTERM, lambda *_: os._exit(0))
+    signal.signal(signal.SIGTERM, lambda *_: end(0))
+    signal.signal(signal.SIGINT, lambda *_: end(130))
+    # Each client takes a descriptor.
+    _, most = resource.getrlimit(resource.RLIMIT_NOFILE)
+    resource.setrlimit(resource.RLIMIT_NOFILE, (most, most))
     try:
         asyncio.run(run(options, tell))
-    except (LogError, OSError) as fault:
+    except OSError as fault:
         tell(str(fault))
-        sys.stderr.flush()
-        os._exit(1)  # A thread may wait for etcd for ever.
-    except KeyboardInterrupt:
-        os._exit(130)
+        sys.exit(1)
 
 
 if __name__ == "__main__":

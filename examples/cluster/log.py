@@ -9,11 +9,11 @@ import time
 from collections.abc import Iterator
 from typing import NamedTuple
 
-from etcd import Compacted, Etcd, LogError, Unanswered, text
+from etcd import TELL_SECONDS, Compacted, Etcd, LogError, Unanswered, text
 
 PAGE = 16  # how many batches are read at once
 TOGETHER = 100  # how many keys are asked for at once; etcd takes 128
-LOOK_SECONDS = 0.05  # how often it is looked for a key
+LOOK_SECONDS, LATE_LOOK_SECONDS = 0.05, 0.5  # how often it is looked for a key: at first, and once it was said that it's missing
 
 
 class Closed(Exception):
@@ -105,8 +105,12 @@ class Log:
 
     def wait(self, key: str) -> bytes:
         """What a key has, once it's there."""
+        start = told = time.monotonic()
         while (value := self.get(key)) is None:
-            time.sleep(LOOK_SECONDS)
+            if time.monotonic() - told >= TELL_SECONDS:
+                told = time.monotonic()
+                self.etcd.tell(f"{key} has been waited for {told - start:.0f} s")
+            time.sleep(LOOK_SECONDS if told == start else LATE_LOOK_SECONDS)
         return value
 
     def following(self) -> str | None:

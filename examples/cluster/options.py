@@ -3,6 +3,7 @@ import argparse
 import os
 import pathlib
 import ssl
+from collections.abc import Iterable
 
 from etcd import Access, Etcd, Tell
 
@@ -10,8 +11,8 @@ from etcd import Access, Etcd, Tell
 ACCESS = {
     "user": ("NAME", "the user of etcd"),
     "password-file": ("FILE", "the file with its password, and a line feed at most behind it"),
-    "ca": ("FILE", "the certificates that etcd's have to be signed by: etcd is asked over TLS"),
-    "certificate": ("FILE", "the certificate to show to etcd"),
+    "ca": ("FILE", "the certificates that the server's has to be signed by: it is asked over TLS"),
+    "certificate": ("FILE", "the certificate to show to it"),
     "key": ("FILE", "its key"),
 }
 
@@ -41,7 +42,13 @@ def add_etcd(words: argparse.ArgumentParser) -> None:
     words.add_argument("--members", type=addresses, default="127.0.0.1:2379", metavar="HOST:PORT,..",
                        help="etcd's members, the nearest first (127.0.0.1:2379)")
     words.add_argument("--prefix", type=prefix, default="/smallbank", help="what the log's keys begin with (/smallbank)")
-    for name, (kind, what) in ACCESS.items():
+    add_access(words, ACCESS)
+
+
+def add_access(words: argparse.ArgumentParser, names: Iterable[str]) -> None:
+    """The options that say as whom a server is asked."""
+    for name in names:
+        kind, what = ACCESS[name]
         words.add_argument(f"--{name}", metavar=kind, default=os.environ.get(f"SMALLBANK_{name.upper().replace('-', '_')}"),
                            help=what)
 
@@ -62,10 +69,11 @@ def parse(words: argparse.ArgumentParser) -> argparse.Namespace:
 
 def access(options: argparse.Namespace) -> Access:
     """As whom etcd is asked. Files that can't be read are an OSError, also where they are no certificates."""
-    if options.user and not options.password_file:
+    user, file = getattr(options, "user", None), getattr(options, "password_file", None)
+    if user and not file:
         raise ValueError("a user has a --password-file")
-    password = pathlib.Path(options.password_file).read_text().removesuffix("\n") if options.user else ""
-    return Access(client_context(options.ca, options.certificate, options.key), options.user or "", password)
+    password = pathlib.Path(file).read_text().removesuffix("\n") if user else ""
+    return Access(client_context(options.ca, options.certificate, options.key), user or "", password)
 
 
 def client_context(ca: str | None, certificate: str | None, key: str | None) -> ssl.SSLContext | None:

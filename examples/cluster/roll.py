@@ -11,6 +11,7 @@ import re
 import sys
 import time
 from collections import Counter, deque
+from collections.abc import Callable
 
 import log
 import machine
@@ -19,10 +20,9 @@ import options as words_of
 import pieces
 import wire
 from carried import MOST, Carried
-from etcd import LogError, NobodyAnswers, Tell
+from etcd import TELL_SECONDS, LogError, NobodyAnswers, Tell
 
 LOOK_SECONDS = 0.05
-TELL_SECONDS = 10.0
 
 
 def next_prefix(prefix: str) -> str:
@@ -104,7 +104,7 @@ class Roll:
         pieces.put(after, "opening", opening)
         self.tell(f"the log {following} has begun, {time.monotonic() - start:.3f} s after the end of {self.book.prefix}")
 
-    def wait(self, what: str, holds) -> None:
+    def wait(self, what: str, holds: Callable[[], bool]) -> None:
         """Waits until something holds, for as long as that takes, and says so now and then."""
         start = told = time.monotonic()
         while not holds():

@@ -17,7 +17,7 @@ import machine
 import messages
 import options as words_of
 import pieces
-from etcd import LogError, Tell
+from etcd import TELL_SECONDS, LogError, Tell
 
 LOOK_SECONDS = 0.05
 SESSIONS = 1000  # the most that a bank without a log of its own takes
@@ -38,11 +38,13 @@ class Keeper:
 
     def place(self) -> machine.Place:
         """The log that the feed is at, once it says so."""
-        while True:
-            place = machine.Place(self.options.folder, self.book.prefix).last()
-            if place.own.exists():
-                return place
+        told = time.monotonic()
+        while not (place := machine.Place(self.options.folder, self.book.prefix).last()).own.exists():
+            if time.monotonic() - told >= TELL_SECONDS:
+                told = time.monotonic()
+                self.tell(f"no feed of {self.options.folder} is at the log {place.prefix} yet")
             time.sleep(LOOK_SECONDS)
+        return place
 
     def run(self) -> None:
         """One bank after the other, until one fails: its status is this program's then."""

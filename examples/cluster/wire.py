@@ -151,6 +151,17 @@ def check_outcomes(outcomes: bytes, value: bytes) -> None:
         raise ValueError("an outcome is missing")
 
 
+def spell_reply(code: int, total: int) -> str:
+    words = client.WORDS[0, code]
+    return words if words != "shown" else f"shown {money(total)}"
+
+
+def spell_outcomes(outcomes: bytes) -> list[str]:
+    """The outcomes as a client is told them."""
+    read = client.OUTCOME.iter_unpack(outcomes)
+    return [spell_reply(code, total) if status == 0 else client.WORDS[status, code] for *_, status, code, total in read]
+
+
 def checkpoint_length(checkpoint: bytes) -> int:
     """How many entries of the log a checkpoint is of. Bytes that begin as none are a ValueError."""
     if len(checkpoint) < HEAD.size or checkpoint[:8] not in MAGICS:
