@@ -23,7 +23,7 @@ import status
 import wire
 from audit import Audit, Strayed
 from batches import Batch, Batches
-from etcd import LogError, Tell
+from etcd import TELL_SECONDS, LogError, Tell
 
 AGAIN_SECONDS = 0.5  # before a session that takes the place of one that broke off
 OTHER_SECONDS = 0.1  # before it is looked anew for a bank of this log
@@ -44,10 +44,6 @@ class Kept:
 
     def go_to(self, asks: int) -> None:
         self.file.seek(asks * SIZE)
-
-    def read(self, batch: Batch) -> bytes:
-        self.go_to(batch.before)
-        return self.file.read(batch.asks * SIZE)
 
     def take(self, outcomes: bytes) -> None:
         there = self.file.read(len(outcomes))
@@ -95,7 +91,8 @@ class Feed:
             while self.at == len(self.batches):
                 if behind and self.at:
                     behind = False
-                    self.tell(f"the bank has heard the log, {self.batches.asks} asks, {time.monotonic() - start:.3f} s after it was there")
+                    took = time.monotonic() - start
+                    self.tell(f"the bank has heard the log, {self.batches.asks} asks, {took:.3f} s after it was there")
                 self.hear()
                 self.audit.look()
                 session.look()
@@ -124,11 +121,19 @@ class Feed:
         if not self.heard:
             self.hear()
         self.check(found)
-        self.at = self.batches.place_of(found.entries, self.kept.asks()) if found.digest else 0
-        self.tell_missing(self.at)
+        self.at = self.first(found)
         self.kept.go_to(self.batches[self.at].before if self.at else 0)
         self.since = time.time()
         return True
+
+    def first(self, found: machine.Beginning) -> int:
+        """The first batch that the bank is asked: one with Asks, so that it tells something, and all before it is in its log,
+        in the file of outcomes, and told to others. A bank without a log of its own is asked all."""
+        if found.digest is None:
+            return 0
+        place = self.batches.place_of(found.entries, self.kept.asks())
+        untold = (at for at, batch in enumerate(self.batches.all) if batch.asks and str(batch.entry.revision) not in self.told)
+        return min(place, next(untold, place))
 
     def check(self, found: machine.Beginning) -> None:
         """Compares the digest of a bank that has a log of its own."""
@@ -201,12 +206,6 @@ class Feed:
             start = end
         return True
 
-    def tell_missing(self, place: int) -> None:
-        """Tells the outcomes of the batches that the bank isn't asked again, from the file, where nobody did."""
-        for batch in self.batches.all[:place]:
-            if batch.asks and str(batch.entry.revision) not in self.told:
-                self.tell_outcomes(batch.entry, self.kept.read(batch))
-
     def tell_outcomes(self, entry: log.Entry, outcomes: bytes) -> None:
         """Tells outcomes to whoever waits for them, where nobody did so before."""
         if (name := str(entry.revision)) in self.told:
@@ -237,11 +236,20 @@ def feed(options: argparse.Namespace, tell: Tell) -> None:
         present[:] = [Feed(book, (options.host, options.port), place, audit, tell)]
         following = present[0].run()
         tell(f"the log {place.prefix} is closed, and all of it is told: {following} follows")
-        while log.Log(first.etcd, following).get(f"{following}/opening") is None:
-            audit.look()
-            time.sleep(OTHER_SECONDS)
-        audit.look(at_once=True)
+        wait_for_next(log.Log(first.etcd, following), audit)
         place.go_over(following)
+
+
+def wait_for_next(book: log.Log, audit: Audit) -> None:
+    """Waits for the opening of the next log, and looks meanwhile what the other feeds tell of the end of this one."""
+    start = told = time.monotonic()
+    while book.get(f"{book.prefix}/opening") is None:
+        audit.look()
+        if time.monotonic() - told >= TELL_SECONDS:
+            told = time.monotonic()
+            audit.tell(f"the opening of {book.prefix} has been waited for {told - start:.0f} s: does a roll.py run?")
+        time.sleep(OTHER_SECONDS)
+    audit.look(at_once=True)
 
 
 def main() -> None:

@@ -172,7 +172,7 @@ def main() -> None:
                        help="where clients come (127.0.0.1:4100)")
     words.add_argument("--listen-certificate", metavar="FILE", help="the certificate to show to clients: they come over TLS")
     words.add_argument("--listen-key", metavar="FILE", help="its key")
-    words.add_argument("--listen-ca", metavar="FILE", help="the certificates that clients' have to be signed by (none are asked for)")
+    words.add_argument("--listen-ca", metavar="FILE", help="what clients' certificates are signed by (none are asked for)")
     words_of.add_status(words)
     options = words_of.parse(words)
     try:
