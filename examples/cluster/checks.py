@@ -1,6 +1,8 @@
 """What has to hold at the end: the same bytes at all banks, those of one `smallbank run` of the log read back."""
+import json
 import pathlib
 import subprocess
+import urllib.request
 from typing import NamedTuple
 
 import log
@@ -36,11 +38,14 @@ class Checked(NamedTuple):
         frames = map(wire.encode, self.asks)
         return {frame: self.outcomes[place * SIZE : (place + 1) * SIZE] for place, frame in enumerate(frames)}
 
+    @property
+    def requests(self) -> int:
+        return wire.checkpoint_length(self.checkpoint)
+
     def says(self) -> str:
-        requests = len(wire.read_checkpoint(self.checkpoint).replies)
         mismatches = sum(answer.startswith("mismatch") for answer in self.played.answers)
-        return (f"the log {self.book.prefix} has {len(self.asks)} asks: {requests} requests, "
-                f"{len(self.asks) - requests - mismatches} repeats and {mismatches} mismatches")
+        return (f"the log {self.book.prefix} has {len(self.asks)} asks: {self.requests} requests, "
+                f"{len(self.asks) - self.requests - mismatches} repeats and {mismatches} mismatches")
 
 
 SIZE = client.OUTCOME.size
@@ -109,6 +114,16 @@ def check_next(first: Checked, second: Checked) -> None:
     expect(opening == [*first.played.rows[:-1], "begin"], "the next log's opening is the rows of a run of the first one")
     both = {ask[:2] for ask in first.asks} & {ask[:2] for ask in second.asks}
     expect(not both, f"no request of the first log is in the next one: {sorted(both)[:3]}")
+
+
+def check_pages(nodes: list[Node], requests: int) -> None:
+    """The pages of feeds that are at the log's end: nothing is missing, and each has the same digest at the last mark."""
+    pages = []
+    for node in nodes:
+        with urllib.request.urlopen(f"http://127.0.0.1:{node.page}", timeout=10) as page:
+            pages.append(json.loads(page.read()))
+    expect(all((page["length"], page["lag"]) == (requests, 0) for page in pages), f"the pages say so many requests: {pages}")
+    expect(len({page["digest"] for page in pages}) == 1 and pages[0]["digest"], f"the pages say one digest: {pages}")
 
 
 def check_crowd(told: list[Told], logs: list[Checked]) -> int:

@@ -239,6 +239,7 @@ class Demo:
     def check_all(self, submitters: list[Process], logs: list[checks.Checked]) -> list[str]:
         """What was found to hold of these logs, each of which was checked by itself."""
         first = logs[0]
+        checks.check_pages(self.nodes, logs[-1].requests)
         asked = sum(ask.client in load.CLIENTS for ask in first.asks)
         checks.expect(asked == self.work.asks(), f"each batch of a submitter is in the log once: {asked} asks")
         given = [(each.output, *self.work.given(each.name)) for each in submitters]

@@ -123,7 +123,7 @@ class Feed:
         self.check(found)
         self.at = self.first(found)
         self.kept.go_to(self.batches[self.at].before if self.at else 0)
-        self.since = time.time()
+        self.since, self.away = time.time(), None
         return True
 
     def first(self, found: machine.Beginning) -> int:

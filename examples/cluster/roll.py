@@ -1,9 +1,10 @@
 #!/usr/bin/env python3
 """Ends a log and begins the next one: `roll.py --folder FOLDER`, on a machine whose feed and bank have that folder.
 
-It closes the log, by a key that is made once; waits until feeds have told all outcomes, and a majority of the banks the same
-digest at the end; takes the rows of this machine's checkpoint, which has to have that digest; and makes the next log's
-opening of them. Feeds, banks and gateways go over by themselves. Who runs it again, or twice at once, gets the same."""
+It puts a mark, to see that a majority of the banks, and this machine's, are where they should be. It closes the log, by a key
+that is made once; waits until feeds have told all outcomes, and that majority its digest at the end; takes the rows of this
+machine's checkpoint, which has to have that digest; and makes the next log's opening of them. Feeds, banks and gateways go
+over by themselves. Who runs it again, or twice at once, gets the same."""
 import argparse
 import hashlib
 import pathlib
@@ -90,6 +91,7 @@ class Roll:
         while self.tail.total < self.options.at and not self.tail.end:
             self.tail.add(next(coming))
         self.tail.fetch()
+        self.look_before()
         start = time.monotonic()
         following = self.book.close(self.options.next or next_prefix(self.book.prefix))
         self.tell(f"the log {self.book.prefix} is closed: {following} follows")
@@ -98,11 +100,20 @@ class Roll:
         self.wait("feeds tell all outcomes", lambda: not self.tail.fetch())
         opening = pieces.wait(self.book, "opening")
         if self.tail.total:
-            opening = self.rows(opening, self.digest(self.tail.end.revision))
+            opening = self.rows(opening, self.saved(self.tail.end.revision))
         after = log.Log(self.book.etcd, following)
         pieces.put(after, "carried", self.tail.spell())
         pieces.put(after, "opening", opening)
         self.tell(f"the log {following} has begun, {time.monotonic() - start:.3f} s after the end of {self.book.prefix}")
+
+    def look_before(self) -> None:
+        """Looks at a mark whether the log can be ended here: once it's closed, there is no way back."""
+        if self.tail.total and not self.tail.end:
+            try:
+                mark, _ = self.book.append(f"{self.book.first}mark/before-the-end", b"")
+            except log.Closed:
+                return
+            self.saved(mark)
 
     def wait(self, what: str, holds: Callable[[], bool]) -> None:
         """Waits until something holds, for as long as that takes, and says so now and then."""
@@ -113,30 +124,37 @@ class Roll:
                 told = time.monotonic()
                 self.tell(f"it has waited for {told - start:.0f} s until {what}")
 
-    def digest(self, end: int) -> str:
-        """The digest that a majority of the banks has at the log's end."""
+    def digest(self, mark: int) -> str:
+        """The digest that a majority of the banks has at a mark."""
         found: list[str] = []
 
         def majority() -> bool:
-            counts = Counter(self.book.below(f"{self.book.prefix}/digest/{end}/").values())
+            counts = Counter(self.book.below(f"{self.book.prefix}/digest/{mark}/").values())
             digest, count = counts.most_common(1)[0] if counts else (b"", 0)
             if 2 * count > self.options.banks:
                 found.append(digest.decode())
             elif sum(counts.values()) >= self.options.banks:
-                raise LogError(f"the banks have {len(counts)} digests at the end, and no majority has the same")
+                raise LogError(f"mark {mark}: the banks have {len(counts)} digests, and no majority has the same")
             return bool(found)
 
-        self.wait(f"a majority of {self.options.banks} banks tells the same digest at the end", majority)
+        self.wait(f"a majority of {self.options.banks} banks tells the same digest at mark {mark}", majority)
         return found[0]
 
-    def rows(self, opening: bytes, digest: str) -> bytes:
-        """The next log's opening: the rows of this machine's checkpoint, which has to have this digest."""
-        def saved() -> bytes:
-            return self.place.checkpoint.read_bytes() if self.place.checkpoint.exists() else b""
+    def saved(self, mark: int) -> bytes:
+        """This machine's checkpoint at a mark, once it's there: it has the majority's digest."""
+        digest = self.digest(mark)
+        path, read = self.place.checkpoint, [b""]
 
-        self.wait(f"{self.place.checkpoint} has the majority's digest {digest[:16]}",
-                  lambda: hashlib.sha256(saved()).hexdigest() == digest)
-        checkpoint = wire.read_checkpoint(saved())
+        def is_there() -> bool:
+            read[:] = [path.read_bytes() if path.exists() else b""]
+            return hashlib.sha256(read[0]).hexdigest() == digest
+
+        self.wait(f"{path} has the digest {digest[:16]} of the majority", is_there)
+        return read[0]
+
+    def rows(self, opening: bytes, saved: bytes) -> bytes:
+        """The next log's opening: the rows of a checkpoint, with the names of the opening."""
+        checkpoint = wire.read_checkpoint(saved)
         names = [line.split(b" ")[0] for line in opening.splitlines()[:-1]]
         rows = zip(names, checkpoint.savings, checkpoint.checking, strict=True)
         return b"".join(b"%b %b %b\n" % (name, wire.money(savings).encode(), wire.money(checking).encode())
