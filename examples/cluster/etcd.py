@@ -202,8 +202,7 @@ class Etcd:
             return told
         if int(told.get("compact_revision", 0)):
             raise Compacted()
-        # Also where the token is stale. The next call asks for another one, or says that it isn't permitted.
-        self.token = None
+        # Also where the token is stale. The next call asks for another one, or finds that it isn't permitted.
         raise Unanswered(f"{where} ended a watch: {told.get('cancel_reason', 'no reason told')}")
 
 

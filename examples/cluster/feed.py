@@ -122,7 +122,11 @@ class Feed:
             self.hear()
         self.check(found)
         self.at = self.first(found)
-        self.kept.go_to(self.batches[self.at].before if self.at else 0)
+        before = self.batches[self.at].before if self.at else 0
+        self.kept.go_to(before)
+        if found.digest:
+            own = f"it has {found.entries} entries of its own, digest {found.digest[:16]}"
+            self.tell(f"the bank is there, and is asked from ask {before + 1} on: {own}")
         self.since, self.away = time.time(), None
         return True
 
@@ -144,7 +148,6 @@ class Feed:
         if (right := self.batches.digest(found.entries)) != found.digest:
             raise Strayed(f"its log of {found.entries} entries has the digest {found.digest[:16]} in place of {right[:16]}: "
                           "it has another opening or other asks")
-        self.tell(f"the bank has {found.entries} entries of its own, digest {found.digest[:16]}")
 
     def step(self, session: bank.Session, batch: Batch) -> bool:
         """Asks the bank the next batches, or passes a mark: whether the session was ended."""
