@@ -77,3 +77,7 @@ class Batches:
                 break
             found = place if batch.asks else found
         return found
+
+    def last_before(self, end: int) -> int:
+        """The place of the last batch with Asks before this one."""
+        return next((place for place in range(end - 1, -1, -1) if self.all[place].asks), 0)

@@ -2,8 +2,8 @@
 """Feeds one bank with a log of batches in etcd: `feed.py --port 4000 --folder FOLDER`, beside `serve.py` of the same folder.
 
 Each batch goes to the bank with a Flush behind it. The outcomes are kept in a file, those of the whole log in order, and told
-in etcd to whoever waits for them. A session begins at the log's beginning, or, with a bank that has a log of its own, where
-that ends, once its digest is found to be the right one. At a mark the session ends, so that the bank puts its checkpoint, and
+in etcd to whoever waits for them. A session begins where this feed left this bank; else at the log's beginning, or, with a
+bank that has a log of its own, where that ends, once its digest is found to be the right one. At a mark the session ends, so that the bank puts its checkpoint, and
 feeds compare theirs. So it does at the log's end; then it goes over to the next log. A bank that strayed ends its feed by
 status 3."""
 import argparse
@@ -62,6 +62,7 @@ class Feed:
         self.coming = book.follow()
         self.batches = Batches(pieces.wait(book, "opening"))
         self.at = 0  # which batch the bank is asked next
+        self.bank = 0  # when the bank was started that was asked all before that
         self.heard = False  # whether the log was read so far
         self.last_mark = 0
         self.end: Batch | None = None
@@ -120,34 +121,34 @@ class Feed:
             return False
         if not self.heard:
             self.hear()
-        self.check(found)
         self.at = self.first(found)
+        self.bank = found.since
         before = self.batches[self.at].before if self.at else 0
         self.kept.go_to(before)
-        if found.digest:
-            own = f"it has {found.entries} entries of its own, digest {found.digest[:16]}"
-            self.tell(f"the bank is there, and is asked from ask {before + 1} on: {own}")
+        self.tell(f"the bank is there, and is asked from ask {before + 1} on")
         self.since, self.away = time.time(), None
         return True
 
     def first(self, found: machine.Beginning) -> int:
-        """The first batch that the bank is asked: one with Asks, so that it tells something, and all before it is in its log,
-        in the file of outcomes, and told to others. A bank without a log of its own is asked all."""
+        """The first batch that the bank is asked: one with Asks, so that it tells something. All before it was asked of this
+        bank by this feed; or it is in the bank's log, in the file of outcomes, and told to others."""
+        if found.since == self.bank:
+            return self.batches.last_before(self.at)
         if found.digest is None:
             return 0
+        self.check(found)
         place = self.batches.place_of(found.entries, self.kept.asks())
         untold = (at for at, batch in enumerate(self.batches.all) if batch.asks and str(batch.entry.revision) not in self.told)
         return min(place, next(untold, place))
 
     def check(self, found: machine.Beginning) -> None:
         """Compares the digest of a bank that has a log of its own."""
-        if found.digest is None:
-            return
         if found.entries > self.batches.entries:
             raise Strayed(f"its log has {found.entries} entries, and this log {self.batches.entries}: somebody else asked it")
         if (right := self.batches.digest(found.entries)) != found.digest:
             raise Strayed(f"its log of {found.entries} entries has the digest {found.digest[:16]} in place of {right[:16]}: "
                           "it has another opening or other asks")
+        self.tell(f"the bank has {found.entries} entries of its own, digest {found.digest[:16]}")
 
     def step(self, session: bank.Session, batch: Batch) -> bool:
         """Asks the bank the next batches, or passes a mark: whether the session was ended."""

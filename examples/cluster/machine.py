@@ -1,6 +1,6 @@
 """The folder of a machine: what its feed and its bank have of each log.
 
-    FOLDER/bank.output     what the bank prints that runs now, behind the prefix of its log
+    FOLDER/bank.output     what the bank prints that runs now, behind the prefix of its log and when it was started
     FOLDER/NAME/           a log's, by the name of its prefix:
       opening  node0.ckpt  log       what the bank reads and writes
       outcomes                       those of the log so far, by the feed
@@ -13,7 +13,8 @@ from typing import NamedTuple
 
 from log import Log
 
-LOG_LINE = re.compile(rb"^log ([0-9]+) ([0-9a-f]{64})$", re.MULTILINE)
+# What stands in the file of a bank that listens. One without a log of its own has no line `log`.
+BEGINNING = re.compile(rb"of (.*)\nsince ([0-9]+)\n(?:log ([0-9]+) ([0-9a-f]{64})\n)?listening ")
 
 
 class Place(NamedTuple):
@@ -65,8 +66,9 @@ class Place(NamedTuple):
 
 
 class Beginning(NamedTuple):
-    """Where a bank began, by what it printed: the log's length and digest; without a log of its own at 0, and no digest."""
+    """When a bank was started, and where it began: its log's length and digest; without a log of its own 0, and no digest."""
 
+    since: int
     entries: int
     digest: str | None
 
@@ -80,10 +82,10 @@ def beginning(place: Place) -> Beginning | None:
         printed = place.bank_output.read_bytes()
     except FileNotFoundError:
         return None
-    if not printed.startswith(f"of {place.prefix}\n".encode()) or b"\nlistening " not in printed:
+    found = BEGINNING.match(printed)
+    if not found or found[1].decode() != place.prefix:
         return None
-    found = LOG_LINE.search(printed[: printed.index(b"\nlistening ")])
-    return Beginning(int(found[1]), found[2].decode()) if found else Beginning(0, None)
+    return Beginning(int(found[2]), int(found[3] or 0), found[4].decode() if found[4] else None)
 
 
 def present(book: Log, folder: pathlib.Path) -> Place:

@@ -64,12 +64,12 @@ class Keeper:
                 sys.exit(status if status > 0 else 1)
 
     def start(self, place: machine.Place) -> subprocess.Popen:
-        """Starts the bank. What it prints stands in a file that begins with its log's prefix."""
+        """Starts the bank. What it prints stands in a file that begins with its log's prefix, and with when it was started."""
         words = [self.options.program, "serve", "--port", f"{self.options.port}", "--store", place.own]
         words += ["--workers", f"{self.options.workers}"]
         words += ["--log", place.own] if self.options.log else ["--sessions", f"{SESSIONS}"]
         with place.opening.open("rb") as opening, place.bank_output.open("wb") as output:
-            output.write(f"of {place.prefix}\n".encode())
+            output.write(f"of {place.prefix}\nsince {time.time_ns()}\n".encode())
             output.flush()
             return subprocess.Popen(words, stdin=opening, stdout=output, preexec_fn=die_with_parent)
 
