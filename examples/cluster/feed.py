@@ -67,7 +67,7 @@ class Feed:
         self.last_mark = 0
         self.end: Batch | None = None
         self.told = book.names(f"{book.prefix}/outcomes/")  # the batches whose outcomes are in etcd, perhaps not all of them
-        self.since: float | None = None  # when the session began
+        self.since: str | None = None  # when the bank was started that is there
         self.away: float | None = None  # since when the bank is another log's
 
     def run(self) -> str:
@@ -126,7 +126,7 @@ class Feed:
         before = self.batches[self.at].before if self.at else 0
         self.kept.go_to(before)
         self.tell(f"the bank is there, and is asked from ask {before + 1} on")
-        self.since, self.away = time.time(), None
+        self.since, self.away = messages.moment(found.since / 1e9), None
         return True
 
     def first(self, found: machine.Beginning) -> int:
