@@ -68,6 +68,7 @@ class Keeper:
         words = [self.options.program, "serve", "--port", f"{self.options.port}", "--store", place.own]
         words += ["--workers", f"{self.options.workers}"]
         words += ["--log", place.own] if self.options.log else ["--sessions", f"{SESSIONS}"]
+        place.bank_output.unlink(missing_ok=True)
         with place.opening.open("rb") as opening, place.bank_output.open("wb") as output:
             output.write(f"of {place.prefix}\nsince {time.time_ns()}\n".encode())
             output.flush()
