@@ -6,7 +6,7 @@ clients ask some 20,000 times at once, by submitters, some of it twice, and a cr
 the member that leads, a bank, a feed and a gateway are killed by -9 and started again. Then a fourth bank joins, banks with a
 cent too much are found, and while the crowd asks on, the log is closed and the next one begins. At the end outcomes and
 checkpoints of both logs have to be the same bytes everywhere, and those of one `smallbank run` of each log read back. It
-wants etcd (`apt-get install etcd-server etcd-client`), openssl and Python 3.10, stops what it started and nothing else, and
+wants etcd (`apt-get install etcd-server etcd-client`), openssl and Python 3.11, stops what it started and nothing else, and
 ends within two minutes."""
 import argparse
 import json

@@ -34,7 +34,8 @@ class Gateway:
         self.loop = asyncio.get_running_loop()
         self.gather = Gather()
         self.putter = Putter(book, self, tell)
-        self.pending: dict[tuple[str, int], tuple[list[Piece], float]] = {}  # by prefix and revision; and since when
+        # By prefix and revision: what waits for these outcomes, and since when. That may be the same asks of two clients.
+        self.pending: dict[tuple[str, int], tuple[list[Piece], float]] = {}
         self.early: dict[tuple[str, int], bytes] = {}  # outcomes that came while a put, perhaps theirs, wasn't answered
         self.putting = False
         self.batches = self.asks = self.answered = 0
@@ -49,7 +50,7 @@ class Gateway:
         try:
             await talk.run(stream)
         except (Fault, OSError) as fault:
-            host, port = writer.get_extra_info("peername")[:2]
+            host, port = (writer.get_extra_info("peername") or ("?", 0))[:2]
             self.tell(f"the client at {host}:{port} is left: {fault or type(fault).__name__}")
         finally:
             self.gather.talks.discard(talk)
@@ -77,7 +78,8 @@ class Gateway:
         if put:
             key = put.prefix, put.revision
             outcomes = put.outcomes if put.outcomes is not None else self.early.get(key)
-            self.pending[key] = batch, time.monotonic()
+            before, since = self.pending.get(key, ([], time.monotonic()))
+            self.pending[key] = before + batch, since
             if outcomes is not None:
                 self.told(key, outcomes)
         self.early.clear()
@@ -104,11 +106,13 @@ class Gateway:
         for piece in batch:
             for each, known in enumerate(piece.outcomes):
                 if known is None:
+                    # Those who ask the same wait for the same bytes, one after the other.
+                    place %= len(outcomes) or 1
                     piece.answer(each, outcomes[place : place + SIZE])
                     place += SIZE
+                    self.answered += 1
         if place != len(outcomes):
             return self.fail(LogError(f"the outcomes of revision {key[1]} are not those of its batch"))
-        self.answered += place // SIZE
         for talk in {piece.talk for piece in batch}:
             talk.move()
 
