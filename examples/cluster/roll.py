@@ -9,6 +9,7 @@ import argparse
 import hashlib
 import pathlib
 import re
+import secrets
 import sys
 import time
 from collections import Counter, deque
@@ -95,62 +96,55 @@ class Roll:
         start = time.monotonic()
         following = self.book.close(self.options.next or next_prefix(self.book.prefix))
         self.tell(f"the log {self.book.prefix} is closed: {following} follows")
+        after = log.Log(self.book.etcd, following)
+        if after.get(f"{following}/opening") is not None:
+            return self.tell(f"the log {following} has begun before")
         while not self.tail.end:
             self.tail.add(next(coming))
         self.wait("feeds tell all outcomes", lambda: not self.tail.fetch())
         opening = pieces.wait(self.book, "opening")
         if self.tail.total:
-            opening = self.rows(opening, self.saved(self.tail.end.revision))
-        after = log.Log(self.book.etcd, following)
+            end = self.tail.end.revision
+            self.wait("a majority of the banks, and this machine's, have the same digest at the end", lambda: self.saved(end))
+            opening = self.rows(opening, self.saved(end))
         pieces.put(after, "carried", self.tail.spell())
         pieces.put(after, "opening", opening)
         self.tell(f"the log {following} has begun, {time.monotonic() - start:.3f} s after the end of {self.book.prefix}")
 
     def look_before(self) -> None:
-        """Looks at a mark whether the log can be ended here: once it's closed, there is no way back."""
-        if self.tail.total and not self.tail.end:
+        """Looks at a mark whether the log can be ended here: once it's closed, there is no way back. Where another mark comes
+        behind, feeds may leave this one out; so there may be one more."""
+        held = not self.tail.total
+        while not held and self.book.following() is None:
             try:
-                mark, _ = self.book.append(f"{self.book.first}mark/before-the-end", b"")
+                mark, _ = self.book.append(f"{self.book.first}mark/{secrets.token_hex(16)}", b"")
             except log.Closed:
                 return
-            self.saved(mark)
+            held = self.wait("a majority of the banks, and this machine's, have the same digest at a mark",
+                             lambda: self.saved(mark), TELL_SECONDS)
 
-    def wait(self, what: str, holds: Callable[[], bool]) -> None:
-        """Waits until something holds, for as long as that takes, and says so now and then."""
+    def wait(self, what: str, holds: Callable[[], object], seconds: float | None = None) -> bool:
+        """Waits until something holds, or for so many seconds: whether it does. It says so now and then."""
         start = told = time.monotonic()
         while not holds():
             time.sleep(LOOK_SECONDS)
             if time.monotonic() - told >= TELL_SECONDS:
                 told = time.monotonic()
                 self.tell(f"it has waited for {told - start:.0f} s until {what}")
+            if seconds is not None and time.monotonic() - start >= seconds:
+                return False
+        return True
 
-    def digest(self, mark: int) -> str:
-        """The digest that a majority of the banks has at a mark."""
-        found: list[str] = []
-
-        def majority() -> bool:
-            counts = Counter(self.book.below(f"{self.book.prefix}/digest/{mark}/").values())
-            digest, count = counts.most_common(1)[0] if counts else (b"", 0)
-            if 2 * count > self.options.banks:
-                found.append(digest.decode())
-            elif sum(counts.values()) >= self.options.banks:
+    def saved(self, mark: int) -> bytes | None:
+        """This machine's checkpoint, once it has the digest that a majority of the banks has at a mark."""
+        counts = Counter(self.book.below(f"{self.book.prefix}/digest/{mark}/").values())
+        digest, count = counts.most_common(1)[0] if counts else (b"", 0)
+        if 2 * count <= self.options.banks:
+            if sum(counts.values()) >= self.options.banks:
                 raise LogError(f"mark {mark}: the banks have {len(counts)} digests, and no majority has the same")
-            return bool(found)
-
-        self.wait(f"a majority of {self.options.banks} banks tells the same digest at mark {mark}", majority)
-        return found[0]
-
-    def saved(self, mark: int) -> bytes:
-        """This machine's checkpoint at a mark, once it's there: it has the majority's digest."""
-        digest = self.digest(mark)
-        path, read = self.place.checkpoint, [b""]
-
-        def is_there() -> bool:
-            read[:] = [path.read_bytes() if path.exists() else b""]
-            return hashlib.sha256(read[0]).hexdigest() == digest
-
-        self.wait(f"{path} has the digest {digest[:16]} of the majority", is_there)
-        return read[0]
+            return None
+        read = self.place.checkpoint.read_bytes() if self.place.checkpoint.exists() else b""
+        return read if hashlib.sha256(read).hexdigest().encode() == digest else None
 
     def rows(self, opening: bytes, saved: bytes) -> bytes:
         """The next log's opening: the rows of a checkpoint, with the names of the opening."""
