@@ -231,7 +231,7 @@ class Demo:
         said = again.errors.read_text()
         checks.expect(again.status() == 1 and f"goes on below the prefix {self.book.prefix}" in said, f"it's told: {said}")
         again.kill()
-        self.say(f"{AGAIN} requests of the first log were asked again, and a submitter that came too late was told of the next one")
+        self.say(f"{AGAIN} requests of the first log were asked again, and a submitter that came late was told of the next one")
 
 
     # ---- what has to hold

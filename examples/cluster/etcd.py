@@ -148,7 +148,9 @@ class Etcd:
             self.connection.request("POST", path, json.dumps(body), self.headers())
             response = self.connection.getresponse()
             said = response.read()
-            answer = json.loads(said) if response.status != 400 or said.startswith(b"{") else {"code": 3, "message": said.decode()}
+            # A refusal may be plain text.
+            is_text = response.status == 400 and not said.startswith(b"{")
+            answer = {"code": 3, "message": said.decode()} if is_text else json.loads(said)
         except (OSError, http.client.HTTPException, ValueError) as fault:
             self.drop()
             raise Unanswered(f"{where}: {fault or type(fault).__name__}") from None

@@ -3,9 +3,9 @@
 
 Each batch goes to the bank with a Flush behind it. The outcomes are kept in a file, those of the whole log in order, and told
 in etcd to whoever waits for them. A session begins where this feed left this bank; else at the log's beginning, or, with a
-bank that has a log of its own, where that ends, once its digest is found to be the right one. At a mark the session ends, so that the bank puts its checkpoint, and
-feeds compare theirs. So it does at the log's end; then it goes over to the next log. A bank that strayed ends its feed by
-status 3."""
+bank that has a log of its own, where that ends, once its digest is found to be the right one. At a mark the session ends, so
+that the bank puts its checkpoint, and feeds compare theirs. So it does at the log's end; then it goes over to the next log. A
+bank that strayed ends its feed by status 3."""
 import argparse
 import pathlib
 import signal
