@@ -11,7 +11,8 @@ from typing import NamedTuple
 
 from etcd import TELL_SECONDS, Compacted, Etcd, LogError, Unanswered, text
 
-PAGE = 16  # how many batches are read at once
+PAGE, LONGEST_PAGE = 16, 128  # how many batches are read at once: as they may be long, or while they are short
+SHORT_PAGE = 1 << 20  # bytes, up to which the next page may be twice as long
 TOGETHER = 100  # how many keys are asked for at once; etcd takes 128
 LOOK_SECONDS, LATE_LOOK_SECONDS = 0.05, 0.5  # how often it is looked for a key: at first, and once it was said that it's missing
 
@@ -156,15 +157,17 @@ class Log:
                 continue
 
     def read_keys_at(self, first: str, end: str, revision: int) -> tuple[list[Entry], int]:
-        entries, key = [], text(first)
+        entries, key, page = [], text(first), PAGE
         while True:
-            body = {"key": key, "range_end": text(end), "limit": str(PAGE), "revision": str(revision)}
+            body = {"key": key, "range_end": text(end), "limit": str(page), "revision": str(revision)}
             answer = self.etcd.call("/v3/kv/range", body)
             revision = revision or int(answer["header"]["revision"])
-            entries += map(read_key, answer.get("kvs", []))
+            read = list(map(read_key, answer.get("kvs", [])))
+            entries += read
             if not answer.get("more"):
                 return in_order(sorted(entries)), revision
-            key = text(entries[-1].key + "\0")
+            key = text(read[-1].key + "\0")
+            page = min(2 * page, LONGEST_PAGE) if sum(len(entry.value) for entry in read) <= SHORT_PAGE else PAGE
 
     def follow(self) -> Iterator[list[Entry]]:
         """The whole log, and then what comes, in order and for ever; nothing where a while passed in silence."""
