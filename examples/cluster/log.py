@@ -13,6 +13,7 @@ from etcd import TELL_SECONDS, Compacted, Etcd, LogError, Unanswered, text
 
 PAGE, LONGEST_PAGE = 16, 128  # how many batches are read at once: as they may be long, or while they are short
 SHORT_PAGE = 1 << 20  # bytes, up to which the next page may be twice as long
+NAMES = 10_000  # how many names are read at once
 TOGETHER = 100  # how many keys are asked for at once; etcd takes 128
 LOOK_SECONDS, LATE_LOOK_SECONDS = 0.05, 0.5  # how often it is looked for a key: at first, and once it was said that it's missing
 
@@ -126,10 +127,16 @@ class Log:
         return {entry.key.removeprefix(prefix): entry.value for entry in found}
 
     def names(self, prefix: str) -> set[str]:
-        """The keys that begin with a prefix, likewise, without their values."""
-        body = {"key": text(prefix), "range_end": text(prefix[:-1] + "0"), "keys_only": True}
-        found = map(read_key, self.etcd.call("/v3/kv/range", body).get("kvs", []))
-        return {entry.key.removeprefix(prefix) for entry in found}
+        """The keys that begin with a prefix, which ends with `/`, without the prefix and their values."""
+        names: set[str] = set()
+        body = {"key": text(prefix), "range_end": text(prefix[:-1] + "0"), "keys_only": True, "limit": str(NAMES)}
+        while True:
+            answer = self.etcd.call("/v3/kv/range", body)
+            found = list(map(read_key, answer.get("kvs", [])))
+            names |= {entry.key.removeprefix(prefix) for entry in found}
+            if not answer.get("more"):
+                return names
+            body["key"] = text(found[-1].key + "\0")
 
     def count(self) -> int:
         """How many batches and marks there are."""
