@@ -28,7 +28,7 @@ class Carried:
 
     def add(self, ask: bytes, outcome: bytes) -> None:
         """Takes an ask that was executed. One that wasn't, as its log was full or its key another call's, isn't kept."""
-        if outcome[STATUS] != REPLIED:
+        if len(outcome) < SIZE or outcome[STATUS] != REPLIED:
             return
         key = ask[3:11]
         self.requests[key] = ask, outcome

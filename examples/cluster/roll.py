@@ -92,9 +92,11 @@ class Roll:
         while self.tail.total < self.options.at and not self.tail.end:
             self.tail.add(next(coming))
         self.tail.fetch()
+        following = self.options.next or next_prefix(self.book.prefix)
+        log.Log(self.book.etcd, following).following()  # A LogError where this user has no right to the next log.
         self.look_before()
         start = time.monotonic()
-        following = self.book.close(self.options.next or next_prefix(self.book.prefix))
+        following = self.book.close(following)
         self.tell(f"the log {self.book.prefix} is closed: {following} follows")
         after = log.Log(self.book.etcd, following)
         if after.get(f"{following}/opening") is not None:
