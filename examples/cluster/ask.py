@@ -1,7 +1,7 @@
 #!/usr/bin/env python3
 """Asks through gateways: `ask.py --gateways a:4100,b:4100 --ca FILE --client 7 < calls`.
 
-Standard input has a call a line, as that of examples/client.py; standard output gets an outcome a line. Where a gateway hangs
+Standard input has a call a line, as examples/client.py takes it; standard output gets an outcome a line. Where a gateway hangs
 up, or is silent, the same is asked again at the next one: it was executed once, and has its first outcome."""
 import argparse
 import contextlib
@@ -32,7 +32,7 @@ class Door:
         self.replies: BinaryIO | None = None
 
     def ask(self, frames: bytes, size: int) -> bytes:
-        """The outcomes of these Asks, which have so many bytes; for as long as that takes."""
+        """The outcomes of these Asks, `size` bytes; for as long as it takes."""
         while True:
             try:
                 if self.connection is None:

@@ -59,7 +59,7 @@ class Batches:
         return True
 
     def digest(self, count: int) -> str:
-        """The digest of a bank's log of the first so many requests, as docs/WIRE.md has it."""
+        """The digest of a bank's log of the first `count` requests, as docs/WIRE.md has it."""
         digest, before = hashlib.sha256(MAGIC + self.opening), 0
         for batch in self.all:
             if batch.entries > count:
@@ -70,7 +70,7 @@ class Batches:
         return digest.hexdigest()
 
     def place_of(self, entries: int, asks: int) -> int:
-        """The place of the last batch with Asks before which the log has at most so many requests, and so many asks."""
+        """The place of the last batch with Asks before which the log has at most these numbers of requests and of asks."""
         found = 0
         for place, batch in enumerate(self.all):
             if batch.before > asks or (self.all[place - 1].entries if place else 0) > entries:

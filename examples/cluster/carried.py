@@ -41,7 +41,7 @@ class Carried:
             self.add(ask, outcomes[place * SIZE : (place + 1) * SIZE])
 
     def outcome(self, ask: bytes) -> bytes | None:
-        """The outcome of an ask whose key is here; that of another call under it is a mismatch."""
+        """The outcome of an ask whose key is here; another call under it is a mismatch."""
         found = self.requests.get(ask[3:11])
         if found is None:
             return None

@@ -122,7 +122,7 @@ def check_pages(nodes: list[Node], requests: int) -> None:
     for node in nodes:
         with urllib.request.urlopen(f"http://127.0.0.1:{node.page}", timeout=10) as page:
             pages.append(json.loads(page.read()))
-    expect(all((page["length"], page["lag"]) == (requests, 0) for page in pages), f"the pages say so many requests: {pages}")
+    expect(all((page["length"], page["lag"]) == (requests, 0) for page in pages), f"the pages say {requests} requests: {pages}")
     expect(len({page["digest"] for page in pages}) == 1 and pages[0]["digest"], f"the pages say one digest: {pages}")
 
 

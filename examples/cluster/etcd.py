@@ -11,7 +11,7 @@ from typing import NamedTuple
 # A call is made at the next member after so many seconds, twice as many after each round of them all, and so many at last.
 # What a member handed on to a leader that died is lost, so to wait for long is of no use.
 CALL_SECONDS, LONGEST_CALL_SECONDS = 2.0, 16.0
-WATCH_SECONDS = 5.0  # of silence, after which a watch is made anew at the next member
+WATCH_SECONDS = 5.0  # of silence, after which another watch is made, at the next member
 RETRY_SECONDS = 0.1
 # How often it is said that no member answers.
 TELL_SECONDS = 10.0
@@ -117,7 +117,7 @@ class Etcd:
                 time.sleep(RETRY_SECONDS)
 
     def ask_member(self, path: str, body: dict, seconds: float) -> dict:
-        """The answer of the present member, within so many seconds. A token that it doesn't know is asked for anew."""
+        """The answer of the present member, within these seconds. Where it doesn't know the token, another one is asked for."""
         if self.access.user and self.token is None:
             self.token = self.authenticate(seconds)
         try:

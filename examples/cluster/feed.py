@@ -26,7 +26,7 @@ from batches import Batch, Batches
 from etcd import TELL_SECONDS, LogError, Tell
 
 AGAIN_SECONDS = 0.5  # before a session that takes the place of one that broke off
-OTHER_SECONDS = 0.1  # before it is looked anew for a bank of this log
+OTHER_SECONDS = 0.1  # before the next look for a bank of this log
 TOGETHER = 10_000  # after how many asks there is a Flush, where so many wait
 SIZE = wire.client.OUTCOME.size
 

@@ -140,7 +140,7 @@ class Gateway:
 
 
 class Fleet:
-    """So many members of etcd and nodes, for a `with`, at whose end all that was started is killed.
+    """Members of etcd and as many nodes, for a `with`, at whose end all that was started is killed.
 
     With `secure` etcd is asked over TLS alone, both ways with certificates, and by users with passwords."""
 
@@ -222,7 +222,7 @@ class Fleet:
         return ",".join(f"127.0.0.1:{port}" for port in ports[nearest:] + ports[:nearest])
 
     def access(self) -> Access:
-        """That of the root user."""
+        """The root user's."""
         if not (made := self.certificates):
             return Access()
         context = words_of.client_context(made.ca, made.certificate("program"), made.key("program"))

@@ -57,7 +57,7 @@ class Log:
         return self.make(key, value, [key])
 
     def append(self, key: str, value: bytes) -> tuple[int, bytes | None]:
-        """Makes a key of the log, likewise. Where the log is closed, and the key isn't there, nothing is made: a Closed."""
+        """Makes a key of the log where it isn't there. Where the log is closed, nothing is made, and it's a Closed."""
         return self.make(key, value, [key, self.closing])
 
     def put_batch(self, value: bytes, client: int, first: int) -> tuple[int, bytes | None]:
@@ -156,7 +156,7 @@ class Log:
         return self.read_keys_at(self.first, self.end, revision)
 
     def read_keys(self, first: str, end: str) -> tuple[list[Entry], int]:
-        """Keys in the order in which they were made, likewise."""
+        """Keys in the order in which they were made, and the revision that they were read at."""
         while True:
             try:
                 return self.read_keys_at(first, end, 0)
@@ -183,7 +183,7 @@ class Log:
         yield from self.follow_keys(self.first, self.end, revision)
 
     def follow_keys(self, first: str, end: str, revision: int) -> Iterator[list[Entry]]:
-        """The keys that are made after a revision, likewise."""
+        """The keys that are made after a revision, in order and for ever; nothing where a while passed in silence."""
         while True:
             try:
                 for answer in self.etcd.watch(first, end, revision + 1):

@@ -76,8 +76,8 @@ class Beginning(NamedTuple):
 def beginning(place: Place) -> Beginning | None:
     """Where the bank began that listens now; None where it isn't of this log.
 
-    To be asked when the bank has been connected to: a bank prints this before it listens, and its keeper begins the file anew
-    before it starts another one. So where these lines aren't of the bank that was connected to, that one is gone."""
+    To be asked when the bank has been connected to: a bank prints this before it listens, and its keeper makes another
+    file before it starts another one. So where these lines aren't of the bank that was connected to, that one is gone."""
     try:
         printed = place.bank_output.read_bytes()
     except FileNotFoundError:

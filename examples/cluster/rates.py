@@ -34,7 +34,7 @@ async def put_again(address: tuple[str, int], keys: Iterator[int], over: float) 
 
 
 def of_puts(some: Fleet, clients: int) -> list[float]:
-    """How long each put of so many clients of etcd took, spread over the members."""
+    """How long each put took, of this number of clients, spread over the members."""
     async def run() -> list[list[float]]:
         members, keys, over = words_of.addresses(some.addresses()), itertools.count(), time.monotonic() + LOAD_SECONDS
         return await asyncio.gather(*(put_again(members[place % len(members)], keys, over) for place in range(clients)))

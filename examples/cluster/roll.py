@@ -126,7 +126,7 @@ class Roll:
                              lambda: self.saved(mark), TELL_SECONDS)
 
     def wait(self, what: str, holds: Callable[[], object], seconds: float | None = None) -> bool:
-        """Waits until something holds, or for so many seconds: whether it does. It says so now and then."""
+        """Waits until something holds, or for these seconds: whether it does. It says so now and then."""
         start = told = time.monotonic()
         while not holds():
             time.sleep(LOOK_SECONDS)
@@ -163,7 +163,7 @@ def main() -> None:
     words.add_argument("--folder", type=pathlib.Path, required=True, help="the folder of this machine's feed and bank")
     words.add_argument("--next", type=words_of.prefix, metavar="PREFIX", help="the next log's (this one's, with -2 behind it)")
     words.add_argument("--banks", type=int, default=3, help="how many banks there are; a majority of them is right (3)")
-    words.add_argument("--at", type=int, default=0, metavar="ASKS", help="wait until the log has so many asks (0)")
+    words.add_argument("--at", type=int, default=0, metavar="ASKS", help="wait until the log has this number of asks (0)")
     options = words_of.parse(words)
     tell = messages.teller("roll")
     try:
