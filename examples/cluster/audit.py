@@ -6,6 +6,7 @@ from collections import Counter
 
 import log
 import wire
+from etcd import Tell
 
 # How often a mark is passed anew whose checkpoint wasn't saved, as where the bank was killed there.
 TRIES = 3
@@ -19,18 +20,23 @@ class Strayed(Exception):
 class Audit:
     """The marks that this feed's bank passed, and how it compares with the others there."""
 
-    def __init__(self, book: log.Log, name: str, banks: int, checkpoint: pathlib.Path | None, tell: log.Tell):
+    def __init__(self, book: log.Log, name: str, banks: int, checkpoint: pathlib.Path, tell: Tell):
         self.book, self.name, self.banks, self.checkpoint, self.tell = book, name, banks, checkpoint, tell
         self.tries: Counter[int] = Counter()  # by a mark's revision
         self.pending: tuple[int, int] | None = None  # a mark that was passed, and how many entries there are before it
         self.open: int | None = None  # the last mark that was compared, while not all have told theirs there
+        self.last: tuple[int, str] | None = None  # the last mark that was compared, and this bank's digest there
         self.looked = 0.0
         self.warned = False
 
     def wants(self, mark: int) -> bool:
         """Whether the session is to end at this mark."""
         waits = self.pending is not None and self.pending[0] == mark
-        return self.checkpoint is not None and self.tries[mark] < TRIES and not waits
+        return self.tries[mark] < TRIES and not waits
+
+    def is_done(self, mark: int) -> bool:
+        """Whether this mark is passed for good."""
+        return self.tries[mark] >= TRIES
 
     def passed(self, mark: int, entries: int) -> None:
         """The session was ended at this mark, where the log has so many entries."""
@@ -74,7 +80,7 @@ class Audit:
         if there not in (None, digest.encode()):
             raise Strayed(f"mark {mark}: its checkpoint has another digest than {self.name} told before")
         self.tell(f"mark {mark}: {entries} entries, digest {digest[:16]}")
-        self.open, self.warned = mark, False
+        self.last, self.open, self.warned = (mark, digest), mark, False
         self.look(at_once=True)
 
     def look(self, at_once: bool = False) -> None:
@@ -94,3 +100,8 @@ class Audit:
             self.tell(f"mark {self.open}: the checkpoint of {', '.join(others)} has another digest")
         if len(digests) >= self.banks:
             self.open = None
+
+    def status(self) -> dict:
+        """The last mark, for a page."""
+        mark, digest = self.last or (None, None)
+        return {"last mark": mark, "digest": digest, "compared with all": self.last is not None and self.open is None}

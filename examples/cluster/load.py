@@ -1,8 +1,7 @@
 """Clients that ask at once, some of them twice, for a trial."""
 import random
-import sys
 
-from fleet import HERE, Fleet, Process
+from fleet import Fleet, Process
 
 CUSTOMERS = 100
 CLIENTS = range(1, 8)
@@ -54,16 +53,14 @@ class Load:
     def start(self, fleet: Fleet, pause: float) -> list[Process]:
         """Starts the submitters, which pause for about so long after a batch."""
         submitters = [self.submitter(fleet, name, pause) for name in self.jobs]
-        fleet.processes += submitters
         for submitter in submitters:
             submitter.start()
         return submitters
 
     def submitter(self, fleet: Fleet, name: str, pause: float) -> Process:
         client, lines, flush = self.jobs[name]
-        words = [sys.executable, HERE / "submit.py", "--members", fleet.addresses(client), "--client", f"{client}",
-                 "--flush", f"{flush}", "--pause", f"{pause}", "--wait"]
-        return Process(name, words, fleet.folder, lines)
+        words = ["--client", f"{client}", "--flush", f"{flush}", "--pause", f"{pause}", "--wait"]
+        return fleet.process(name, "submit.py", "submit", client, *words, given=lines)
 
     def given(self, name: str) -> tuple[int, bytes]:
         """The client and the lines of a submitter."""

@@ -7,17 +7,20 @@ import argparse
 import sys
 
 import log
+import messages
+import options as words_of
 import wire
+from etcd import Compacted, LogError, NobodyAnswers
 
-
-def tell(what: str) -> None:
-    print(f"read_back: {what}", file=sys.stderr, flush=True)
+tell = messages.teller("read_back")
 
 
 def write_lines(book: log.Log, at: int) -> None:
     """Writes a line for each Ask of the log. A batch that feeds leave out is left out here too."""
     entries, revision = book.read_at(at) if at else book.read()
     for entry in entries:
+        if entry.key == book.closing:
+            break
         try:
             sys.stdout.buffer.writelines(map(wire.spell_ask, wire.read_batch(entry.value)))
         except ValueError as fault:
@@ -28,16 +31,16 @@ def write_lines(book: log.Log, at: int) -> None:
 
 def main() -> None:
     words = argparse.ArgumentParser(description="Reads a log of batches in etcd back, as lines for `smallbank run`.")
-    log.add_words(words)
+    words_of.add_etcd(words)
     words.add_argument("--at", type=int, default=0, metavar="REVISION", help="how the log was at a revision of etcd (now)")
     words.add_argument("--give-up", type=float, default=60, help="how many seconds etcd is waited for (60)")
-    options = words.parse_args()
+    options = words_of.parse(words)
     try:
-        write_lines(log.Log(log.Etcd(options.members, tell, options.give_up), options.prefix), options.at)
-    except (log.NobodyAnswers, log.LogError, OSError) as fault:
+        write_lines(log.Log(words_of.etcd(options, tell, options.give_up), options.prefix), options.at)
+    except (NobodyAnswers, LogError, OSError) as fault:
         tell(str(fault))
         sys.exit(1)
-    except log.Compacted:
+    except Compacted:
         tell(f"etcd has dropped what it was at revision {options.at}")
         sys.exit(1)
 

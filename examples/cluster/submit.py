@@ -5,7 +5,6 @@ Standard input has a call a line, as that of examples/client.py. Each becomes an
 next request number, and so many of them a batch. With `--wait` the outcomes are printed that a bank's feed told of them.
 Whoever isn't sure whether it went through gives the same words and lines again: what is there already isn't put again."""
 import argparse
-import hashlib
 import io
 import random
 import secrets
@@ -14,7 +13,10 @@ import time
 from typing import NamedTuple
 
 import log
+import messages
+import options as words_of
 import wire
+from etcd import LogError, NobodyAnswers
 from wire import client
 
 LOOK_SECONDS = (0.02, 0.5)  # how often it is looked for outcomes: at first, and at last
@@ -26,14 +28,8 @@ class Batch(NamedTuple):
     asks: list[wire.Ask]
     value: bytes
 
-    def key(self, prefix: str) -> str:
-        """Other asks under the same numbers are another batch. The same ones are the same, whoever puts them."""
-        number, first, _ = self.asks[0]
-        return f"{prefix}/log/{number}/{first}-{hashlib.sha256(self.value).hexdigest()}"
 
-
-def tell(what: str) -> None:
-    print(f"submit: {what}", file=sys.stderr, flush=True)
+tell = messages.teller("submit")
 
 
 def batches(read: bytes, options: argparse.Namespace) -> list[Batch]:
@@ -52,20 +48,12 @@ def batches(read: bytes, options: argparse.Namespace) -> list[Batch]:
     return [Batch(wire.read_batch(value), value) for value in values]
 
 
-def put(batch: Batch, book: log.Log) -> int:
-    """Puts a batch where it isn't there: its revision."""
-    revision, there = book.put_new(batch.key(book.prefix), batch.value)
-    if there not in (None, batch.value):
-        raise log.LogError(f"{batch.key(book.prefix)} has another value than its name says")
-    return revision
-
-
 def told(book: log.Log, revision: int, give_up: float) -> bytes:
     """The outcomes of the batch of this revision, once a feed told them."""
     start, pause = time.monotonic(), LOOK_SECONDS[0]
     while (outcomes := book.get(f"{book.prefix}/outcomes/{revision}")) is None:
         if time.monotonic() - start > give_up:
-            raise log.NobodyAnswers(f"no feed told its outcomes for {give_up:.0f} s")
+            raise NobodyAnswers(f"no feed told its outcomes for {give_up:.0f} s")
         time.sleep(pause)
         pause = min(2 * pause, LOOK_SECONDS[1])
     return outcomes
@@ -74,7 +62,7 @@ def told(book: log.Log, revision: int, give_up: float) -> bytes:
 def show(batch: Batch, outcomes: bytes) -> None:
     """Prints an outcome a line."""
     if not outcomes:
-        raise log.LogError("the feeds left it out, as it isn't whole Asks")
+        raise LogError("the feeds left it out, as it isn't whole Asks")
     replies = io.BytesIO(outcomes)
     for ask in batch.asks:
         print(client.outcome(replies, ask.client, ask.request))
@@ -88,28 +76,37 @@ def submit(asked: list[Batch], book: log.Log, options: argparse.Namespace) -> No
         time.sleep(options.pause * random.uniform(0.5, 1.5) if place else 0)
         where = f"requests {batch.asks[0].request} to {batch.asks[-1].request}"
         try:
-            revisions.append(put(batch, book))
-        except log.NobodyAnswers as fault:
-            raise log.NobodyAnswers(f"{where} may be in the log or not, and nothing after them is; "
-                                    f"the same words and lines once more put what is missing: {fault}") from None
-        except log.LogError as fault:
-            raise log.LogError(f"{where} and those after them aren't put: {fault}") from None
+            revisions.append(book.put_batch(batch.value, batch.asks[0].client, batch.asks[0].request)[0])
+        except NobodyAnswers as fault:
+            raise NobodyAnswers(f"{where} may be in the log or not, and nothing after them is; "
+                                f"the same words and lines once more put what is missing: {fault}") from None
+        except LogError as fault:
+            raise LogError(f"{where} and those after them aren't put: {fault}") from None
+        except log.Closed as fault:
+            show_all(asked[:place], revisions, book, options)
+            raise LogError(f"{where} and those after them aren't put, and never will be: {fault}. Ask what follows line "
+                           f"{batch.asks[0].request - options.first} there, with --first {batch.asks[0].request}") from None
         if not options.wait:
             print(f"{where} in the log since revision {revisions[-1]}", flush=True)
     if options.mark:
-        revision, _ = book.put_new(f"{book.prefix}/log/mark/{secrets.token_hex(16)}", b"")
+        revision, _ = book.append(f"{book.first}mark/{secrets.token_hex(16)}", b"")
         tell(f"mark in the log since revision {revision}")
+    show_all(asked, revisions, book, options)
+
+
+def show_all(asked: list[Batch], revisions: list[int], book: log.Log, options: argparse.Namespace) -> None:
+    """Waits for the outcomes of these batches, and prints them, where that is wanted."""
     for batch, revision in zip(asked, revisions) if options.wait else ():
         try:
             show(batch, told(book, revision, options.give_up))
-        except (log.NobodyAnswers, log.LogError, OSError) as fault:
+        except (NobodyAnswers, LogError, OSError) as fault:
             sys.stdout.flush()
-            raise log.NobodyAnswers(f"the batch of revision {revision} is in the log: {fault}") from None
+            raise NobodyAnswers(f"the batch of revision {revision} is in the log: {fault}") from None
 
 
 def main() -> None:
     words = argparse.ArgumentParser(description="Puts call lines into a log of batches in etcd.")
-    log.add_words(words)
+    words_of.add_etcd(words)
     words.add_argument("--client", type=int, default=1, help="the client's number (1)")
     words.add_argument("--first", type=int, default=1, help="the first request's number (1)")
     words.add_argument("--flush", type=int, default=1000, help="how many lines a batch has (1000)")
@@ -117,7 +114,7 @@ def main() -> None:
     words.add_argument("--mark", action="store_true", help="put a mark behind, at which banks are saved and compared")
     words.add_argument("--pause", type=float, default=0, help="about so many seconds between two batches (0)")
     words.add_argument("--give-up", type=float, default=60, help="how many seconds etcd, and a feed, is waited for (60)")
-    options = words.parse_args()
+    options = words_of.parse(words)
     if options.client not in client.NUMBERS[1:] or options.first not in client.NUMBERS:
         words.error("a number is out of range")
     if not 1 <= options.flush <= wire.MOST_ASKS:
@@ -125,10 +122,10 @@ def main() -> None:
     if options.pause < 0 or options.give_up <= 0:
         words.error("a time is out of range")
     asked = batches(sys.stdin.buffer.read(), options)
-    book = log.Log(log.Etcd(options.members, tell, options.give_up), options.prefix)
+    book = log.Log(words_of.etcd(options, tell, options.give_up), options.prefix)
     try:
         submit(asked, book, options)
-    except (log.NobodyAnswers, log.LogError) as fault:
+    except (NobodyAnswers, LogError, log.Closed) as fault:
         tell(str(fault))
         sys.exit(1)
     except KeyboardInterrupt:

@@ -49,6 +49,11 @@ def encode_ask(number: int, request: int, line: bytes) -> bytes:
     return client.frame(client.ASK.pack(client.TAG_ASK, number, request) + client.call(line))
 
 
+def encode(ask: Ask) -> bytes:
+    """The Ask frame of an ask."""
+    return client.frame(client.ASK.pack(client.TAG_ASK, ask.client, ask.request) + ask.call)
+
+
 def spell_call(call: bytes) -> bytes:
     """The line of a call. Bytes that are no call are a ValueError, for just those that end a bank's session."""
     if not call or call[0] not in VERBS:
@@ -118,6 +123,15 @@ def read_batch(value: bytes) -> list[Ask]:
     return asks
 
 
+def frames(value: bytes) -> Iterator[bytes]:
+    """Each frame of bytes that are whole frames."""
+    place = 0
+    while place < len(value):
+        end = place + 2 + int.from_bytes(value[place : place + 2], "big")
+        yield value[place:end]
+        place = end
+
+
 def heads(value: bytes) -> Iterator[tuple[int, int]]:
     """Client and request of each Ask of bytes that are whole Ask frames."""
     place = 0
@@ -135,6 +149,17 @@ def check_outcomes(outcomes: bytes, value: bytes) -> None:
             raise ValueError(f"this is no outcome, or of another ask: client {number}, request {request}")
     if next(asked, None):
         raise ValueError("an outcome is missing")
+
+
+def spell_reply(code: int, total: int) -> str:
+    words = client.WORDS[0, code]
+    return words if words != "shown" else f"shown {money(total)}"
+
+
+def spell_outcomes(outcomes: bytes) -> list[str]:
+    """The outcomes as a client is told them."""
+    read = client.OUTCOME.iter_unpack(outcomes)
+    return [spell_reply(code, total) if status == 0 else client.WORDS[status, code] for *_, status, code, total in read]
 
 
 def checkpoint_length(checkpoint: bytes) -> int:
