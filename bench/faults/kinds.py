@@ -1,0 +1,148 @@
+"""The faults of a round. Each is a function that strikes, yields as long as it lasts, and mends what it broke."""
+import contextlib
+import os
+import signal
+import subprocess
+import time
+from collections.abc import Callable, Iterator
+from typing import TYPE_CHECKING, NamedTuple
+
+import fleet
+from machines import Machine, addresses
+
+if TYPE_CHECKING:
+    from trial import Trial
+
+SECONDS = 20  # none of the waits here takes so long
+SMALL_SPACE, ROOM = 160_000, 100_000_000  # bytes that etcd takes at first, and then
+
+
+class Kind(NamedTuple):
+    """A fault by its name, and the settings of etcd that it wants."""
+
+    name: str
+    strike: Callable[["Trial"], contextlib.AbstractContextManager[None]]
+    etcd: tuple[str, ...] = ()
+    keeps_log: bool = False  # whether the banks have to keep a log
+
+
+KINDS: list[Kind] = []
+
+
+def kind(name: str, *etcd: str, keeps_log: bool = False) -> Callable[[Callable[["Trial"], Iterator[None]]], None]:
+    def add(strike: Callable[["Trial"], Iterator[None]]) -> None:
+        KINDS.append(Kind(name, contextlib.contextmanager(strike), etcd, keeps_log))
+
+    return add
+
+
+# ---- the network
+
+
+def any_member(trial: "Trial") -> Machine:
+    """The one that leads, every other time, if one does."""
+    chosen, wants_leader = trial.numbers.choice(trial.machines.all), trial.numbers.random() < 0.5
+    return wants_leader and trial.machines.leader() or chosen
+
+
+@kind("a machine cut off")
+def machine_cut(trial: "Trial") -> Iterator[None]:
+    host = any_member(trial).host
+    host.cut()
+    yield
+    host.mend()
+
+
+@kind("a member cut off from the others, not from its clients")
+def member_cut(trial: "Trial") -> Iterator[None]:
+    host = any_member(trial).host
+    host.cut_member()
+    yield
+    host.mend()
+
+
+@kind("two members that don't reach each other")
+def pair_severed(trial: "Trial") -> Iterator[None]:
+    one = any_member(trial).host
+    other = trial.numbers.choice([host for host in trial.machines.hosts if host is not one])
+    one.sever(other)
+    yield
+    one.mend()
+    other.mend()
+
+
+@kind("all members cut off from each other")
+def all_cut(trial: "Trial") -> Iterator[None]:
+    for host in trial.machines.hosts:
+        host.cut_member()
+    yield
+    for host in trial.machines.hosts:
+        host.mend()
+
+
+# ---- processes
+
+
+@kind("a member killed")
+def member_killed(trial: "Trial") -> Iterator[None]:
+    member = any_member(trial).member
+    member.kill()
+    yield
+    member.start()
+
+
+@kind("a member that hangs")
+def member_hangs(trial: "Trial") -> Iterator[None]:
+    member = any_member(trial).member
+    if member.child:
+        member.child.send_signal(signal.SIGSTOP)
+    yield
+    if member.child:
+        member.child.send_signal(signal.SIGCONT)
+
+
+@kind("a bank killed")
+def bank_killed(trial: "Trial") -> Iterator[None]:
+    machine = trial.pick()
+    machine.bank.kill()
+    yield
+    machine.bank.start()
+
+
+@kind("a feed killed")
+def feed_killed(trial: "Trial") -> Iterator[None]:
+    machine = trial.pick()
+    machine.feed.kill()
+    yield
+    machine.feed.start()
+
+
+@kind("submitters killed in the middle")
+def submitters_killed(trial: "Trial") -> Iterator[None]:
+    for _ in range(3):
+        trial.numbers.choice(trial.submitters).strike()
+        time.sleep(trial.numbers.uniform(0, 0.3))
+    yield
+
+
+# ---- a full etcd
+
+
+@kind("a full etcd", "--quota-backend-bytes", f"{SMALL_SPACE}")
+def etcd_full(trial: "Trial") -> Iterator[None]:
+    fleet.wait_for("a full etcd", SECONDS, lambda: "NOSPACE" in alarm(trial, "list"))
+    yield
+    for machine in trial.machines.all:
+        words = machine.member.words
+        words[words.index("--quota-backend-bytes") + 1] = f"{ROOM}"
+        machine.member.kill()
+        machine.member.start()
+    # A put that was on its way to a member as it was raises the alarm once more.
+    fleet.wait_for("room in etcd", SECONDS, lambda: alarm(trial, "disarm") == "" == alarm(trial, "list"))
+
+
+def alarm(trial: "Trial", what: str) -> str:
+    """What etcd's own client says of its alarms, or that they are disarmed; a text too where no member answers."""
+    words = ["etcdctl", "--endpoints", addresses(trial.machines.hosts), "alarm", what]
+    ended = subprocess.run(words, capture_output=True, text=True, env={**os.environ, "ETCDCTL_API": "3"})
+    return ended.stdout if ended.returncode == 0 else "nobody answers"
