@@ -4,6 +4,7 @@ Each machine is in two networks: one for clients, and one in which members of et
 off from the others while its clients still reach it. All of it is within a namespace of this program's own, and ends with it,
 however it ends: nobody else's network is touched."""
 import os
+import signal
 import subprocess
 import sys
 
@@ -17,17 +18,25 @@ class NoNamespaces(Exception):
 
 
 def enter() -> None:
-    """Runs this program anew within namespaces of its own, where it doesn't run there yet. What it starts ends with it."""
+    """Runs this program once more, within namespaces of its own, and ends with its status; there, it goes on. All that it
+    starts there ends with it."""
     if ENTERED in os.environ:
         prepare()
         return
     user = [] if os.geteuid() == 0 else ["--map-root-user"]
-    words = ["unshare", *user, "--net", "--mount", "--pid", "--fork", "--kill-child", "--mount-proc"]
+    words = ["setpriv", "--pdeathsig", "KILL", "unshare", *user, "--net", "--mount", "--pid", "--fork", "--kill-child", "--mount-proc"]
     try:
         subprocess.run([*words, "ip", "link"], capture_output=True, check=True)
     except (OSError, subprocess.CalledProcessError) as fault:
         raise NoNamespaces(str(fault)) from None
-    os.execvpe(words[0], [*words, sys.executable, *sys.argv], {**os.environ, ENTERED: "yes"})
+    signal.signal(signal.SIGTERM, lambda *_: sys.exit(143))
+    child = subprocess.Popen([*words, sys.executable, *sys.argv], env={**os.environ, ENTERED: "yes"})
+    try:
+        sys.exit(child.wait())
+    except KeyboardInterrupt:
+        sys.exit(130)
+    finally:
+        child.kill()  # It ignores gentler signals.
 
 
 def prepare() -> None:
