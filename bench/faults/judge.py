@@ -7,7 +7,9 @@ from typing import TYPE_CHECKING
 sys.path.insert(0, str(pathlib.Path(__file__).resolve().parents[1]))
 import bank_model  # noqa: E402
 import checks  # noqa: E402
+import log  # noqa: E402
 import log_file  # noqa: E402
+import pieces  # noqa: E402
 import wire  # noqa: E402
 from checks import Wrong, expect  # noqa: E402
 
@@ -15,34 +17,54 @@ if TYPE_CHECKING:
     from trial import Trial
 
 
-def judge(trial: "Trial", mark: int) -> str:
-    """Compares all with a model of the bank, and with a run, that execute the log as it is in etcd."""
-    book, machines = trial.machines.book(), trial.machines.all
-    batches = [entry for entry in book.read()[0] if not entry.is_mark]
-    asks = checks.asks_of(batches)
-    bank = bank_model.Bank(trial.opening)
-    expected = b"".join(execute(bank, ask) for ask in asks)
-    outcomes = checks.same([machine.outcomes for machine in machines], "outcomes")
-    expect(outcomes == expected, "the outcomes are a model's, each request executed once")
-    checkpoint = checks.same([machine.checkpoint for machine in machines], "checkpoints")
-    played = checks.run(trial.machines.settings.program, trial.opening, asks)
-    checks.check_by_run(asks, outcomes, checkpoint, trial.opening, played)
-    expect("".join(row + "\n" for row in played.rows).encode() == bank.state(), "a run's rows are a model's")
-    digests = set(book.below(f"{book.prefix}/digest/{mark}/").values())
-    expect(digests == {hashlib.sha256(checkpoint).hexdigest().encode()}, "all digests are that of the checkpoint")
-    for machine in machines if trial.machines.settings.keeps_log else ():
-        kept = log_file.read(machine.log.read_bytes())
-        expect(kept.is_torn and not kept.rest, f"the log of {machine.host.name} is whole")
-        expect(kept.asks == first_of_each(asks), f"the log of {machine.host.name} has each request once, in order")
-    judge_told(trial, bank, asks)
-    return f"{len(batches)} batches, {len(asks)} asks, {len(bank.entries)} requests, {len(trial.told.outcomes)} told"
+class Judge:
+    """A model of the bank, which executes each request once, through all logs of a round."""
 
+    def __init__(self, trial: "Trial"):
+        self.trial, self.machines = trial, trial.machines.all
+        self.bank = bank_model.Bank(trial.opening)
+        self.asks: list[wire.Ask] = []
+        self.batches = 0
 
-def execute(bank: bank_model.Bank, ask: wire.Ask) -> bytes:
-    """The outcome of an ask, whose request is executed if it's new."""
-    if (ask.client, ask.request) not in bank.entries:
-        bank.take(ask)
-    return bank.outcome(ask)
+    def take(self, book: log.Log, end: int) -> None:
+        """Compares what all banks made of a log, up to a mark or its end, with a model and with a run of it."""
+        opening = pieces.get(book, "opening")
+        rows = self.bank.state().rpartition(b"total ")[0] + b"begin\n"
+        expect(opening == rows, f"{book.prefix} opens where the log before it ended, each request executed once")
+        batches = [entry for entry in book.read()[0] if not entry.is_mark and entry.key != book.closing]
+        asks = checks.asks_of(batches)
+        new = first_of_each(asks)
+        for ask in new:
+            expect((ask.client, ask.request) not in self.bank.entries, f"{ask} isn't executed once more in {book.prefix}")
+            self.bank.take(ask)
+        expected = b"".join(map(self.bank.outcome, asks))
+        places = [machine.place(book.prefix) for machine in self.machines]
+        outcomes = checks.same([place.outcomes for place in places], "outcomes")
+        expect(outcomes == expected, "the outcomes are a model's")
+        checkpoint = checks.same([place.checkpoint for place in places], "checkpoints")
+        played = checks.run(self.trial.machines.settings.program, opening, asks)
+        checks.check_by_run(asks, outcomes, checkpoint, opening, played)
+        expect("".join(row + "\n" for row in played.rows).encode() == self.bank.state(), "a run's rows are a model's")
+        digests = list(book.below(f"{book.prefix}/digest/{end}/").values())
+        right = hashlib.sha256(checkpoint).hexdigest().encode()
+        expect(digests == len(self.machines) * [right], "all digests are that of the checkpoint")
+        for place in places if self.trial.machines.settings.keeps_log else ():
+            kept = log_file.read((place.own / "log").read_bytes())
+            expect(kept.is_torn and not kept.rest and kept.opening == opening, f"{place.own}/log is whole")
+            expect(kept.asks == new, f"{place.own}/log has each request once, in order")
+        self.asks += asks
+        self.batches += len(batches)
+
+    def judge_told(self) -> None:
+        """What clients were told stands, and they were told all that they asked."""
+        there = set(self.asks)
+        for ask, outcome in self.trial.told.outcomes.items():
+            stands = self.bank.outcome(ask)
+            if stands is None:
+                raise Wrong(f"client {ask.client}, request {ask.request} was told `{outcome}`, and isn't in the log")
+            told = f"client {ask.client}, request {ask.request} was told `{outcome}`"
+            expect([outcome] == checks.spell_outcomes(stands), f"{told} as the log has it")
+        expect(there <= set(self.trial.told.outcomes), "the logs have what was asked, and nothing else")
 
 
 def first_of_each(asks: list[wire.Ask]) -> list[wire.Ask]:
@@ -52,12 +74,14 @@ def first_of_each(asks: list[wire.Ask]) -> list[wire.Ask]:
     return list(firsts.values())
 
 
-def judge_told(trial: "Trial", bank: bank_model.Bank, asks: list[wire.Ask]) -> None:
-    """What clients were told stands, and each was told all that it asked."""
-    there = set(asks)
-    for ask, outcome in trial.told.outcomes.items():
-        if ask not in there:
-            raise Wrong(f"client {ask.client}, request {ask.request} was told `{outcome}`, and isn't in the log")
-        stands, = checks.spell_outcomes(bank.outcome(ask))
-        expect(outcome == stands, f"client {ask.client}, request {ask.request} was told `{outcome}`; the log has `{stands}`")
-    expect(there == set(trial.told.outcomes), "the log has what was asked, and nothing else")
+def judge(trial: "Trial", mark: int) -> str:
+    """Judges all logs of a round, the last one up to a mark: what it had."""
+    judge = Judge(trial)
+    books = trial.machines.books()
+    for book, after in zip(books, [*books[1:], None]):
+        end = mark if after is None else book.append(book.closing, b"")[0]
+        judge.take(book, end)
+    judge.judge_told()
+    told = len(trial.told.outcomes)
+    logs = f"{len(books)} logs, " if len(books) > 1 else ""
+    return f"{logs}{judge.batches} batches, {len(judge.asks)} asks, {len(judge.bank.entries)} requests, {told} told"

@@ -14,24 +14,26 @@ if TYPE_CHECKING:
     from trial import Trial
 
 SECONDS = 20  # none of the waits here takes so long
-SMALL_SPACE, ROOM = 160_000, 100_000_000  # bytes that etcd takes at first, and then
+SMALL_SPACE, ROOM = 90_000, 100_000_000  # bytes that etcd takes at first, and then
 
 
 class Kind(NamedTuple):
-    """A fault by its name, and the settings of etcd that it wants."""
+    """A fault by its name, and what it wants of a round."""
 
     name: str
     strike: Callable[["Trial"], contextlib.AbstractContextManager[None]]
-    etcd: tuple[str, ...] = ()
-    keeps_log: bool = False  # whether the banks have to keep a log
+    etcd: tuple[str, ...] = ()  # words for members of etcd
+    keeps_log: bool = False  # banks keep a log
+    rolls: bool = False  # the log rolls over
+    is_large: bool = False  # no other one is struck by chance beside it
 
 
 KINDS: list[Kind] = []
 
 
-def kind(name: str, *etcd: str, keeps_log: bool = False) -> Callable[[Callable[["Trial"], Iterator[None]]], None]:
+def kind(name: str, *etcd: str, **wants: bool) -> Callable[[Callable[["Trial"], Iterator[None]]], None]:
     def add(strike: Callable[["Trial"], Iterator[None]]) -> None:
-        KINDS.append(Kind(name, contextlib.contextmanager(strike), etcd, keeps_log))
+        KINDS.append(Kind(name, contextlib.contextmanager(strike), etcd, **wants))
 
     return add
 
@@ -117,10 +119,43 @@ def feed_killed(trial: "Trial") -> Iterator[None]:
     machine.feed.start()
 
 
+@kind("gateways killed in the middle of batches")
+def gateways_killed(trial: "Trial") -> Iterator[None]:
+    for _ in range(3):
+        gateway = trial.numbers.choice(trial.machines.all).gateway
+        gateway.kill()
+        time.sleep(trial.numbers.uniform(0, 0.5))
+        gateway.start()
+    gateway.kill()
+    yield
+    gateway.start()
+
+
+@kind("a gateway that hangs")
+def gateway_hangs(trial: "Trial") -> Iterator[None]:
+    gateway = trial.numbers.choice(trial.machines.all).gateway
+    if gateway.child:
+        gateway.child.send_signal(signal.SIGSTOP)
+    yield
+    if gateway.child:
+        gateway.child.send_signal(signal.SIGCONT)
+
+
+@kind("a machine without power")
+def machine_off(trial: "Trial") -> Iterator[None]:
+    machine = trial.pick()
+    for process in machine.processes:
+        process.kill()
+    yield
+    for process in machine.processes:
+        if process.status() is None and process.child is None:
+            process.start()
+
+
 @kind("submitters killed in the middle")
 def submitters_killed(trial: "Trial") -> Iterator[None]:
-    for _ in range(3):
-        trial.numbers.choice(trial.submitters).strike()
+    for submitter in trial.submitters:
+        submitter.strike()
         time.sleep(trial.numbers.uniform(0, 0.3))
     yield
 
@@ -128,7 +163,7 @@ def submitters_killed(trial: "Trial") -> Iterator[None]:
 # ---- a full etcd
 
 
-@kind("a full etcd", "--quota-backend-bytes", f"{SMALL_SPACE}")
+@kind("a full etcd", "--quota-backend-bytes", f"{SMALL_SPACE}", is_large=True)
 def etcd_full(trial: "Trial") -> Iterator[None]:
     fleet.wait_for("a full etcd", SECONDS, lambda: "NOSPACE" in alarm(trial, "list"))
     yield

@@ -1,46 +1,22 @@
-"""Three machines in network namespaces, each with a member of etcd, a bank, and the feed beside it."""
+"""Three machines in network namespaces, each with a member of etcd, a bank, the feed beside it, and a gateway."""
 import pathlib
+import subprocess
 import sys
 
 CLUSTER = pathlib.Path(__file__).resolve().parents[2] / "examples" / "cluster"
 sys.path.insert(0, str(CLUSTER))
 import fleet  # noqa: E402
 import log  # noqa: E402
+import options  # noqa: E402
+from etcd import Etcd, NobodyAnswers  # noqa: E402
+from machine import Place  # noqa: E402
 from network import Host  # noqa: E402
 
 SIZE = 3
-CLIENT_PORT, MEMBER_PORT, BANK_PORT = 2379, 2380, 4000
+CLIENT_PORT, MEMBER_PORT, BANK_PORT, GATEWAY_PORT = 2379, 2380, 4000, 4100
+PREFIX = "/smallbank"  # of the first log
 # Of etcd: it elects sooner than it would by itself, since this is one machine's network.
 HASTE = ["--heartbeat-interval", "50", "--election-timeout", "500"]
-
-
-class Machine:
-    """A host with what runs there. What it keeps is in a folder of its own."""
-
-    def __init__(self, host: Host, hosts: list[Host], folder: pathlib.Path, settings: "Settings"):
-        self.host, self.folder, self.settings = host, folder, settings
-        folder.mkdir()
-        self.checkpoint, self.outcomes = folder / "node0.ckpt", folder / "outcomes"
-        self.log = folder / "log"
-        self.member = self.process("member", member_words(host, hosts, folder / "etcd", settings.etcd))
-        self.bank = self.process("bank", self.bank_words(), settings.opening)
-        self.feed = self.process("feed", self.feed_words(hosts))
-        self.processes = [self.member, self.bank, self.feed]
-
-    def process(self, name: str, words: list[str | pathlib.Path], given: bytes = b"") -> fleet.Process:
-        return fleet.Process(name, [*self.host.within, *words], self.folder, given)
-
-    def bank_words(self) -> list[str | pathlib.Path]:
-        keeps = ["--log", self.folder] if self.settings.keeps_log else ["--sessions", "1000"]
-        return [self.settings.program, "serve", "--port", f"{BANK_PORT}", "--store", self.folder, *keeps]
-
-    def feed_words(self, hosts: list[Host]) -> list[str | pathlib.Path]:
-        return [sys.executable, CLUSTER / "feed.py", "--members", addresses(hosts, self.host), "--port", f"{BANK_PORT}",
-                "--name", self.host.name, "--outcomes", self.outcomes, "--checkpoint", self.checkpoint, "--banks", f"{SIZE}"]
-
-    def told(self) -> str:
-        """What its feed has said."""
-        return self.feed.errors.read_text()
 
 
 class Settings:
@@ -48,6 +24,32 @@ class Settings:
 
     def __init__(self, program: pathlib.Path, opening: bytes, keeps_log: bool, etcd: list[str]):
         self.program, self.opening, self.keeps_log, self.etcd = program, opening, keeps_log, etcd
+
+
+class Machine:
+    """A host with what runs there. What it keeps is in a folder of its own."""
+
+    def __init__(self, host: Host, hosts: list[Host], folder: pathlib.Path, settings: Settings):
+        self.host, self.hosts, self.folder, self.settings = host, hosts, folder, settings
+        folder.mkdir()
+        self.member = self.process("member", member_words(host, hosts, folder / "etcd", settings.etcd))
+        keeps = ["--program", settings.program, *(["--log"] if settings.keeps_log else [])]
+        self.bank = self.script("bank", "serve.py", "--port", f"{BANK_PORT}", "--folder", folder, *keeps)
+        self.feed = self.script("feed", "feed.py", "--port", f"{BANK_PORT}", "--folder", folder, "--name", host.name)
+        self.gateway = self.script("gateway", "gateway.py", "--listen", f"{host.address}:{GATEWAY_PORT}")
+        self.processes = [self.member, self.bank, self.feed, self.gateway]
+
+    def process(self, name: str, words: list[str | pathlib.Path], given: bytes = b"") -> fleet.Process:
+        return fleet.Process(name, [*self.host.within, *words], self.folder, given)
+
+    def script(self, name: str, file: str, *words: str | pathlib.Path, given: bytes = b"") -> fleet.Process:
+        """A program of examples/cluster, whose nearest member is that of this machine."""
+        members = ["--members", addresses(self.hosts, self.host)]
+        return self.process(name, [sys.executable, CLUSTER / file, *members, *words], given)
+
+    def place(self, prefix: str = PREFIX) -> Place:
+        """Where it has what it keeps of a log."""
+        return Place(self.folder, prefix)
 
 
 def member_words(host: Host, hosts: list[Host], data: pathlib.Path, settings: list[str]) -> list[str | pathlib.Path]:
@@ -81,15 +83,22 @@ class Machines:
             machine.host.mend()
 
     def start(self) -> None:
+        """Starts all, and puts the opening into etcd."""
         for machine in self.all:
-            machine.member.start()
-            machine.bank.start()
-        self.book().count()
-        for machine in self.all:
-            machine.feed.start()
+            for process in machine.processes:
+                process.start()
+        begin = [sys.executable, CLUSTER / "begin.py", "--members", addresses(self.hosts)]
+        subprocess.run(begin, input=self.settings.opening, check=True)
 
-    def book(self, give_up: float = 30) -> log.Log:
-        return log.Log(log.Etcd(log.members(addresses(self.hosts)), lambda _: None, give_up), "/smallbank")
+    def etcd(self, give_up: float = 30) -> Etcd:
+        return Etcd(options.addresses(addresses(self.hosts)), lambda _: None, give_up)
+
+    def books(self) -> list[log.Log]:
+        """The first log, and those that followed it."""
+        books = [log.Log(self.etcd(), PREFIX)]
+        while following := books[-1].following():
+            books.append(log.Log(books[0].etcd, following))
+        return books
 
     def leader(self) -> Machine | None:
         """The machine whose member leads, by its own word."""
@@ -106,8 +115,8 @@ class Machines:
 
 def leads(machine: Machine) -> bool:
     try:
-        etcd = log.Etcd([(machine.host.address, CLIENT_PORT)], lambda _: None, give_up=0.5)
+        etcd = Etcd([(machine.host.address, CLIENT_PORT)], lambda _: None, give_up=0.5)
         told = etcd.call("/v3/maintenance/status", {})
         return told["header"]["member_id"] == told.get("leader")
-    except log.NobodyAnswers:
+    except NobodyAnswers:
         return False

@@ -11,10 +11,11 @@ import fleet
 import judge
 import load
 from kinds import KINDS, Kind
-from machines import Machine, Machines, Settings, addresses
+from machines import GATEWAY_PORT, Machine, Machines, Settings, addresses
 from network import Host
 
-ASKS = 1_500
+ASKS = 200  # of a client
+ASK_SECONDS = 5  # for which clients ask where nothing is at fault, as they pause between batches
 LONGEST = 90  # seconds that clients, and what they were told, may take
 
 
@@ -31,6 +32,7 @@ class Trial:
         self.unpicked = self.machines.all[:]
         self.told = asking.Told()
         self.submitters: list[asking.Submitter] = []
+        self.clients: list[asking.Caller | asking.Submitter] = []
 
     def pick(self) -> Machine:
         """A machine at which nothing else was picked in this round, as long as there is one."""
@@ -54,29 +56,48 @@ class Trial:
             return judge.judge(self, mark)
 
     def begin(self) -> None:
-        def some_members() -> str:
-            hosts = self.machines.hosts[:]
-            self.numbers.shuffle(hosts)
-            return addresses(hosts)
+        """Has clients ask. The first one's lines are asked by two at once, in different batches; and some numbers of the third
+        one with other calls. Submitters take no part where the log rolls over: they don't know what it carries over."""
+        lines = [load.calls(ASKS, self.numbers).splitlines() for _ in range(6)]
+        self.caller("client1", 1, lines[0])
+        self.caller("client1-again", 1, lines[0])
+        self.caller("client2", 2, lines[1])
+        self.caller("client3", 3, lines[2])
+        self.caller("client3-changed", 3, lines[3][: ASKS // 4])
+        if not any(kind.rolls for kind in self.kinds):
+            self.submitters = [self.submitter(client, lines[client]) for client in (4, 5)]
+        self.clients += self.submitters
+        for client in self.clients:
+            client.start()
 
-        self.submitters = asking.workload(self.numbers, self.folder, some_members, self.told, ASKS)
-        for submitter in self.submitters:
-            submitter.start()
+    def caller(self, name: str, client: int, lines: list[bytes]) -> None:
+        gateways = [(host.address, GATEWAY_PORT) for host in self.machines.hosts]
+        self.numbers.shuffle(gateways)
+        flush = self.numbers.randint(2, 20)
+        pause = ASK_SECONDS / (len(lines) / flush)
+        numbers = random.Random(self.numbers.random())
+        self.clients.append(asking.Caller(name, asking.frames(client, lines), flush, pause, gateways, numbers, self.told))
+
+    def submitter(self, client: int, lines: list[bytes]) -> asking.Submitter:
+        nearest = self.numbers.choice(self.machines.hosts)
+        flush = self.numbers.randint(5, 40)
+        pause = ASK_SECONDS / (ASKS / flush)
+        return asking.submitter(client, lines, flush, pause, addresses(self.machines.hosts, nearest), self.folder, self.told)
 
     def finish(self) -> None:
         """Waits until all clients were told all."""
         def is_done() -> bool:
             self.machines.watch()
-            return not any(submitter.is_alive() for submitter in self.submitters)
+            return not any(client.is_alive() for client in self.clients)
 
         fleet.wait_for("what clients are told", LONGEST, is_done)
         if self.told.faults:
             raise judge.Wrong("; ".join(self.told.faults))
 
     def mark(self) -> int:
-        """A mark at which all banks were saved and compared."""
-        book = self.machines.book()
-        revision, _ = book.put_new(f"{book.prefix}/log/mark/{secrets.token_hex(8)}", b"")
+        """A mark in the last log, at which all banks were saved and compared."""
+        book = self.machines.books()[-1]
+        revision, _ = book.append(f"{book.first}mark/{secrets.token_hex(8)}", b"")
 
         def is_compared() -> bool:
             self.machines.watch()
@@ -87,9 +108,9 @@ class Trial:
 
 
 def choose(numbers: random.Random, number: int, wanted: str | None) -> list[Kind]:
-    """One kind in turn, and up to two others beside it, in any order. Of those with settings of etcd there is one at most."""
+    """One kind in turn, and up to two others beside it, in any order. Of those that take the whole cluster, just that one."""
     first = KINDS[(number - 1) % len(KINDS)] if wanted is None else next(kind for kind in KINDS if wanted in kind.name)
-    others = [kind for kind in KINDS if kind is not first and not (kind.etcd and first.etcd)]
+    others = [kind for kind in KINDS if kind is not first and not kind.is_large]
     kinds = [first, *numbers.sample(others, numbers.choice([0, 1, 1, 2]))]
     numbers.shuffle(kinds)
     return kinds
