@@ -32,7 +32,7 @@ class Judge:
         rows = self.bank.state().rpartition(b"total ")[0] + b"begin\n"
         expect(opening == rows, f"{book.prefix} opens where the log before it ended, each request executed once")
         batches = [entry for entry in book.read()[0] if not entry.is_mark and entry.key != book.closing]
-        asks = checks.asks_of(batches)
+        asks = [ask for entry in batches for ask in wire.read_batch(entry.value)]
         new = first_of_each(asks)
         for ask in new:
             expect((ask.client, ask.request) not in self.bank.entries, f"{ask} isn't executed once more in {book.prefix}")
@@ -84,4 +84,5 @@ def judge(trial: "Trial", mark: int) -> str:
     judge.judge_told()
     told = len(trial.told.outcomes)
     logs = f"{len(books)} logs, " if len(books) > 1 else ""
-    return f"{logs}{judge.batches} batches, {len(judge.asks)} asks, {len(judge.bank.entries)} requests, {told} told"
+    return (f"{logs}{judge.batches} batches, {len(judge.asks)} asks, {len(judge.bank.entries)} requests, {told} told, "
+            f"the last after {trial.told.longest:.1f} s at most")

@@ -25,6 +25,7 @@ class Kind(NamedTuple):
     etcd: tuple[str, ...] = ()  # words for members of etcd
     keeps_log: bool = False  # banks keep a log
     rolls: bool = False  # the log rolls over
+    stays: bool = False  # or must not
     is_large: bool = False  # no other one is struck by chance beside it
 
 
@@ -152,7 +153,7 @@ def machine_off(trial: "Trial") -> Iterator[None]:
             process.start()
 
 
-@kind("submitters killed in the middle")
+@kind("submitters killed in the middle", stays=True)
 def submitters_killed(trial: "Trial") -> Iterator[None]:
     for submitter in trial.submitters:
         submitter.strike()

@@ -72,11 +72,14 @@ class Machines:
     def __init__(self, folder: pathlib.Path, hosts: list[Host], settings: Settings):
         self.hosts, self.settings = hosts, settings
         self.all = [Machine(host, hosts, folder / host.name, settings) for host in hosts]
+        self.others: list[fleet.Process] = []  # which end by themselves
 
     def __enter__(self) -> "Machines":
         return self
 
     def __exit__(self, *_fault: object) -> None:
+        for process in self.others:
+            process.kill()
         for machine in self.all:
             for process in machine.processes:
                 process.kill()

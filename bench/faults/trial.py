@@ -111,6 +111,9 @@ def choose(numbers: random.Random, number: int, wanted: str | None) -> list[Kind
     """One kind in turn, and up to two others beside it, in any order. Of those that take the whole cluster, just that one."""
     first = KINDS[(number - 1) % len(KINDS)] if wanted is None else next(kind for kind in KINDS if wanted in kind.name)
     others = [kind for kind in KINDS if kind is not first and not kind.is_large]
-    kinds = [first, *numbers.sample(others, numbers.choice([0, 1, 1, 2]))]
+    kinds = [first]
+    for kind in numbers.sample(others, numbers.choice([0, 1, 1, 2])):
+        if not (kind.stays and any(each.rolls for each in kinds) or kind.rolls and any(each.stays for each in kinds)):
+            kinds.append(kind)
     numbers.shuffle(kinds)
     return kinds
