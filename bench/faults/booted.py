@@ -20,7 +20,7 @@ mount -t tmpfs tmpfs "$root/run"
 mount -t tmpfs tmpfs "$root/tmp"
 mount --rbind /dev "$root/dev"
 mount -t cgroup2 cgroup2 "$root/sys/fs/cgroup"
-mount --bind "$2" "$root/mnt"
+mount --rbind "$2" "$root/mnt"
 hostname "$3"
 exec env -i container=lxc PATH=/usr/sbin:/usr/bin:/sbin:/bin chroot "$root" /lib/systemd/systemd
 """
@@ -37,7 +37,8 @@ class Booted:
         self.group = control_group() / f"{folder.name}-{name}"
         self.child: subprocess.Popen | None = None
 
-    def boot(self) -> None:
+    def lay(self) -> None:
+        """Lays its files over those of this machine. All machines' are to be laid before one boots, so that it sees them."""
         below = f"lowerdir=/,upperdir={self.root.parent}/upper,workdir={self.root.parent}/work"
         subprocess.run(["mount", "-t", "overlay", "overlay", "-o", below, self.root], check=True)
         units = self.root / "etc" / "systemd" / "system"
@@ -47,6 +48,8 @@ class Booted:
             (units / unit).unlink(missing_ok=True)
             (units / unit).symlink_to("/dev/null")
         (self.root / "etc" / "hostname").write_text(f"{self.name}\n")
+
+    def boot(self) -> None:
         self.group.mkdir()
         within = ["unshare", "--pid", "--fork", "--mount", "--uts", "--ipc", "--cgroup", "--kill-child"]
         start = ["sh", "-c", f"echo $$ > {self.group}/cgroup.procs; exec \"$@\"", "sh", *self.host.within, *within]

@@ -12,6 +12,7 @@ import log_file  # noqa: E402
 import pieces  # noqa: E402
 import wire  # noqa: E402
 from checks import Wrong, expect  # noqa: E402
+from machine import Place  # noqa: E402
 
 if TYPE_CHECKING:
     from trial import Trial
@@ -38,7 +39,8 @@ class Judge:
             expect((ask.client, ask.request) not in self.bank.entries, f"{ask} isn't executed once more in {book.prefix}")
             self.bank.take(ask)
         expected = b"".join(map(self.bank.outcome, asks))
-        places = [machine.place(book.prefix) for machine in self.machines]
+        places = [place for machine in self.machines if not is_left_out(place := machine.place(book.prefix))]
+        expect(2 * len(places) > len(self.machines), f"a majority has gone through {book.prefix}")
         outcomes = checks.same([place.outcomes for place in places], "outcomes")
         expect(outcomes == expected, "the outcomes are a model's")
         checkpoint = checks.same([place.checkpoint for place in places], "checkpoints")
@@ -47,7 +49,7 @@ class Judge:
         expect("".join(row + "\n" for row in played.rows).encode() == self.bank.state(), "a run's rows are a model's")
         digests = list(book.below(f"{book.prefix}/digest/{end}/").values())
         right = hashlib.sha256(checkpoint).hexdigest().encode()
-        expect(digests == len(self.machines) * [right], "all digests are that of the checkpoint")
+        expect(digests == len(places) * [right], "all digests are that of the checkpoint")
         for place in places if self.trial.machines.settings.keeps_log else ():
             kept = log_file.read((place.own / "log").read_bytes())
             expect(kept.is_torn and not kept.rest and kept.opening == opening, f"{place.own}/log is whole")
@@ -65,6 +67,11 @@ class Judge:
             told = f"client {ask.client}, request {ask.request} was told `{outcome}`"
             expect([outcome] == checks.spell_outcomes(stands), f"{told} as the log has it")
         expect(there <= set(self.trial.told.outcomes), "the logs have what was asked, and nothing else")
+
+
+def is_left_out(place: Place) -> bool:
+    """Whether a machine has left a log out that was over before it had anything of it."""
+    return place.next() is not None and not place.outcomes.exists()
 
 
 def first_of_each(asks: list[wire.Ask]) -> list[wire.Ask]:

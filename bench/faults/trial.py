@@ -15,7 +15,7 @@ from machines import GATEWAY_PORT, Machine, Machines, Settings, addresses
 from network import Host
 
 ASKS = 200  # of a client
-ASK_SECONDS = 5  # for which clients ask where nothing is at fault, as they pause between batches
+ASK_SECONDS = 4  # for which clients ask where nothing is at fault, as they pause between batches
 LONGEST = 90  # seconds that clients, and what they were told, may take
 
 
