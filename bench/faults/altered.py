@@ -59,7 +59,7 @@ def down(trial: "Trial") -> tuple[Machine, log_file.Log]:
     return machine, read()
 
 
-@kind("a bank whose log was altered", keeps_log=True, stays=True)
+@kind("a bank whose log was altered", keeps_log=True, stays=True, waits=True, is_first=True)
 def log_altered(trial: "Trial") -> Iterator[None]:
     machine, log = down(trial)
     alter: Callable[..., bytes] = trial.numbers.choice([of_another_call, of_an_ask_more, of_another_order])
@@ -78,7 +78,7 @@ def log_altered(trial: "Trial") -> Iterator[None]:
     machine.feed.start()
 
 
-@kind("a bank whose log lost its end", keeps_log=True, stays=True)
+@kind("a bank whose log lost its end", keeps_log=True, stays=True, waits=True)
 def log_cut(trial: "Trial") -> Iterator[None]:
     machine, log = down(trial)
     path = machine.place().own / "log"
@@ -88,7 +88,7 @@ def log_cut(trial: "Trial") -> Iterator[None]:
     machine.bank.start()
 
 
-@kind("a bank whose log is damaged", keeps_log=True, stays=True)
+@kind("a bank whose log is damaged", keeps_log=True, stays=True, waits=True)
 def log_damaged(trial: "Trial") -> Iterator[None]:
     machine, log = down(trial)
     path = machine.place().own / "log"

@@ -7,7 +7,6 @@ import time
 
 import fleet
 import wire
-from checks import spell_outcomes
 from machines import CLUSTER
 
 GIVE_UP, AGAIN_SECONDS = 10, 0.1
@@ -132,6 +131,6 @@ class Caller(threading.Thread):
             pass
         whole = len(outcomes) // SIZE
         wire.check_outcomes(outcomes[: whole * SIZE], b"".join(batch[:whole]))
-        for ask, outcome in zip(wire.read_frames(b"".join(batch[:whole])), spell_outcomes(outcomes[: whole * SIZE])):
+        for ask, outcome in zip(wire.read_frames(b"".join(batch[:whole])), wire.spell_outcomes(outcomes[: whole * SIZE])):
             self.told.keep(ask, outcome)
         return whole == len(batch)

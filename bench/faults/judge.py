@@ -47,9 +47,10 @@ class Judge:
         played = checks.run(self.trial.machines.settings.program, opening, asks)
         checks.check_by_run(asks, outcomes, checkpoint, opening, played)
         expect("".join(row + "\n" for row in played.rows).encode() == self.bank.state(), "a run's rows are a model's")
+        # Nothing is compared at the end of a log that nobody asked.
         digests = list(book.below(f"{book.prefix}/digest/{end}/").values())
         right = hashlib.sha256(checkpoint).hexdigest().encode()
-        expect(digests == len(places) * [right], "all digests are that of the checkpoint")
+        expect(digests == (len(places) if asks else 0) * [right], "all digests are that of the checkpoint")
         for place in places if self.trial.machines.settings.keeps_log else ():
             kept = log_file.read((place.own / "log").read_bytes())
             expect(kept.is_torn and not kept.rest and kept.opening == opening, f"{place.own}/log is whole")
@@ -65,7 +66,7 @@ class Judge:
             if stands is None:
                 raise Wrong(f"client {ask.client}, request {ask.request} was told `{outcome}`, and isn't in the log")
             told = f"client {ask.client}, request {ask.request} was told `{outcome}`"
-            expect([outcome] == checks.spell_outcomes(stands), f"{told} as the log has it")
+            expect([outcome] == wire.spell_outcomes(stands), f"{told} as the log has it")
         expect(there <= set(self.trial.told.outcomes), "the logs have what was asked, and nothing else")
 
 

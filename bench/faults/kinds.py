@@ -26,7 +26,9 @@ class Kind(NamedTuple):
     keeps_log: bool = False  # banks keep a log
     rolls: bool = False  # the log rolls over
     stays: bool = False  # or must not
-    is_large: bool = False  # no other one is struck by chance beside it
+    is_large: bool = False  # it isn't struck by chance beside another one
+    is_first: bool = False  # its turn comes before those of others
+    waits: bool = False  # it waits for what can't come while other faults last, and so strikes before these
 
 
 KINDS: list[Kind] = []
@@ -56,7 +58,7 @@ def machine_cut(trial: "Trial") -> Iterator[None]:
     host.mend()
 
 
-@kind("a member cut off from the others, not from its clients")
+@kind("a member cut off from the others, not from its clients", is_first=True)
 def member_cut(trial: "Trial") -> Iterator[None]:
     host = any_member(trial).host
     host.cut_member()
@@ -120,7 +122,7 @@ def feed_killed(trial: "Trial") -> Iterator[None]:
     machine.feed.start()
 
 
-@kind("gateways killed in the middle of batches")
+@kind("gateways killed in the middle of batches", is_first=True)
 def gateways_killed(trial: "Trial") -> Iterator[None]:
     for _ in range(3):
         gateway = trial.numbers.choice(trial.machines.all).gateway
@@ -164,7 +166,7 @@ def submitters_killed(trial: "Trial") -> Iterator[None]:
 # ---- a full etcd
 
 
-@kind("a full etcd", "--quota-backend-bytes", f"{SMALL_SPACE}", is_large=True)
+@kind("a full etcd", "--quota-backend-bytes", f"{SMALL_SPACE}", is_large=True, is_first=True, waits=True)
 def etcd_full(trial: "Trial") -> Iterator[None]:
     fleet.wait_for("a full etcd", SECONDS, lambda: "NOSPACE" in alarm(trial, "list"))
     yield

@@ -4,12 +4,14 @@ from collections.abc import Iterator
 from typing import TYPE_CHECKING
 
 import fleet
+import log
 from kinds import kind
 from machines import PREFIX, Machine
 
 if TYPE_CHECKING:
     from trial import Trial
 
+SOME = 5
 SECONDS = 60  # for which a roll-over lasts at most, with all that is killed
 
 
@@ -34,20 +36,26 @@ def kill_some(trial: "Trial", rolls: list[fleet.Process]) -> None:
         victim.start()
 
 
+def one_is_done(rolls: list[fleet.Process]) -> bool:
+    """Whether one of them has ended well. At a machine that has left the log out another one may wait for ever."""
+    return any(roll.status() == 0 for roll in rolls)
+
+
 @kind("a roll-over", rolls=True)
 def rolled_over(trial: "Trial") -> Iterator[None]:
     roll = roller(trial, PREFIX)
+    trial.awaited["a roll-over"] = lambda: roll.status() == 0
     yield
-    fleet.wait_for("a roll-over", SECONDS, lambda: roll.status() == 0)
 
 
-@kind("two roll-overs at once, with kills, and one more", rolls=True, is_large=True)
+@kind("two roll-overs at once, with kills, and two more", rolls=True, is_large=True, is_first=True, waits=True)
 def rolled_over_with_kills(trial: "Trial") -> Iterator[None]:
-    for prefix in (PREFIX, f"{PREFIX}-2"):
-        rolls = [roller(trial, prefix), roller(trial, prefix)]
-        kill_some(trial, rolls)
-        # At a machine that has left the log out the other one waits in vain.
-        fleet.wait_for("one of two roll-overs", SECONDS, lambda: any(roll.status() == 0 for roll in rolls))
-        for roll in rolls:
-            roll.kill()
+    rolls = [roller(trial, PREFIX), roller(trial, PREFIX)]
+    kill_some(trial, rolls)
+    fleet.wait_for("one of two roll-overs", SECONDS, lambda: one_is_done(rolls))
+    book = log.Log(trial.machines.etcd(), f"{PREFIX}-2")
+    fleet.wait_for("some batches of the next log", SECONDS, lambda: book.count() >= SOME)
+    after = [roller(trial, f"{PREFIX}-2"), roller(trial, f"{PREFIX}-2")]
+    kill_some(trial, after)
+    trial.awaited["one of two more roll-overs"] = lambda: one_is_done(after)
     yield

@@ -5,6 +5,7 @@ import pathlib
 import random
 import secrets
 import time
+from collections.abc import Callable
 
 import asking
 import fleet
@@ -33,6 +34,7 @@ class Trial:
         self.told = asking.Told()
         self.submitters: list[asking.Submitter] = []
         self.clients: list[asking.Caller | asking.Submitter] = []
+        self.awaited: dict[str, Callable[[], bool]] = {}  # what has to come when all is mended
 
     def pick(self) -> Machine:
         """A machine at which nothing else was picked in this round, as long as there is one."""
@@ -85,7 +87,10 @@ class Trial:
         return asking.submitter(client, lines, flush, pause, addresses(self.machines.hosts, nearest), self.folder, self.told)
 
     def finish(self) -> None:
-        """Waits until all clients were told all."""
+        """Waits until all clients were told all, and what else has to come has come."""
+        for what, holds in self.awaited.items():
+            fleet.wait_for(what, LONGEST, holds)
+
         def is_done() -> bool:
             self.machines.watch()
             return not any(client.is_alive() for client in self.clients)
@@ -109,11 +114,12 @@ class Trial:
 
 def choose(numbers: random.Random, number: int, wanted: str | None) -> list[Kind]:
     """One kind in turn, and up to two others beside it, in any order. Of those that take the whole cluster, just that one."""
-    first = KINDS[(number - 1) % len(KINDS)] if wanted is None else next(kind for kind in KINDS if wanted in kind.name)
+    turns = sorted(KINDS, key=lambda kind: not kind.is_first)
+    first = turns[(number - 1) % len(turns)] if wanted is None else next(kind for kind in KINDS if wanted in kind.name)
     others = [kind for kind in KINDS if kind is not first and not kind.is_large]
     kinds = [first]
     for kind in numbers.sample(others, numbers.choice([0, 1, 1, 2])):
         if not (kind.stays and any(each.rolls for each in kinds) or kind.rolls and any(each.stays for each in kinds)):
             kinds.append(kind)
     numbers.shuffle(kinds)
-    return kinds
+    return sorted(kinds, key=lambda kind: (not kind.waits, kind.is_large))
