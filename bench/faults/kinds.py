@@ -88,12 +88,18 @@ def all_cut(trial: "Trial") -> Iterator[None]:
 # ---- processes
 
 
+def revive(process: fleet.Process) -> None:
+    """Starts it again, unless another fault that was mended did so."""
+    if process.child is None:
+        process.start()
+
+
 @kind("a member killed")
 def member_killed(trial: "Trial") -> Iterator[None]:
     member = any_member(trial).member
     member.kill()
     yield
-    member.start()
+    revive(member)
 
 
 @kind("a member that hangs")
@@ -111,7 +117,7 @@ def bank_killed(trial: "Trial") -> Iterator[None]:
     machine = trial.pick()
     machine.bank.kill()
     yield
-    machine.bank.start()
+    revive(machine.bank)
 
 
 @kind("a feed killed")
@@ -119,7 +125,7 @@ def feed_killed(trial: "Trial") -> Iterator[None]:
     machine = trial.pick()
     machine.feed.kill()
     yield
-    machine.feed.start()
+    revive(machine.feed)
 
 
 @kind("gateways killed in the middle of batches", is_first=True)
@@ -128,10 +134,10 @@ def gateways_killed(trial: "Trial") -> Iterator[None]:
         gateway = trial.numbers.choice(trial.machines.all).gateway
         gateway.kill()
         time.sleep(trial.numbers.uniform(0, 0.5))
-        gateway.start()
+        revive(gateway)
     gateway.kill()
     yield
-    gateway.start()
+    revive(gateway)
 
 
 @kind("a gateway that hangs")
@@ -151,8 +157,7 @@ def machine_off(trial: "Trial") -> Iterator[None]:
         process.kill()
     yield
     for process in machine.processes:
-        if process.status() is None and process.child is None:
-            process.start()
+        revive(process)
 
 
 @kind("submitters killed in the middle", stays=True)
