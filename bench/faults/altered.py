@@ -1,4 +1,4 @@
-"""Banks whose log is altered on the disk while they are down, which have to be found; or is shorter, which does no harm."""
+"""Banks whose log is altered on the disk while they are down. Those that strayed have to be found."""
 import random
 import shutil
 import subprocess
@@ -68,7 +68,8 @@ def log_altered(trial: "Trial") -> Iterator[None]:
     machine.bank.start()
     fleet.wait_for(f"a feed that finds a log {alter.__name__}", SECONDS, lambda: machine.feed.status() is not None)
     said = machine.feed.errors.read_text()
-    expect(machine.feed.status() == STRAYED and "the bank strayed" in said, f"{alter.__name__} is told by status 3: {said}")
+    is_told = machine.feed.status() == STRAYED and "the bank strayed" in said
+    expect(is_told, f"a log {alter.__name__} is told by status 3: {said}")
     yield
     # Its operator has it begin from nothing.
     machine.bank.kill()
@@ -99,5 +100,6 @@ def log_damaged(trial: "Trial") -> Iterator[None]:
     fleet.wait_for("a bank that finds damage", SECONDS, lambda: machine.bank.status() is not None)
     expect(machine.bank.status() == DAMAGED, f"a damaged log is told by status 3, not {machine.bank.status()}")
     yield
-    subprocess.run([trial.machines.settings.program, "log", path.parent, "--cut"], stdout=subprocess.DEVNULL, check=True)
+    cut = [trial.machines.settings.program, "log", path.parent, "--cut"]
+    subprocess.run(cut, stdout=subprocess.DEVNULL, check=True)
     machine.bank.start()

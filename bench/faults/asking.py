@@ -1,4 +1,5 @@
 """Clients that ask, and ask again until they are told. What they were told is kept, to be judged."""
+import pathlib
 import random
 import socket
 import sys
@@ -27,8 +28,8 @@ class Told:
     def keep(self, ask: wire.Ask, outcome: str) -> None:
         with self.lock:
             before = self.outcomes.setdefault(ask, outcome)
-            if before != outcome:
-                self.faults.append(f"client {ask.client}, request {ask.request} was told `{before}`, and again `{outcome}`")
+        if before != outcome:
+            self.fault(f"client {ask.client}, request {ask.request} was told `{before}`, and again `{outcome}`")
 
     def fault(self, what: str) -> None:
         with self.lock:
@@ -70,15 +71,15 @@ class Submitter(threading.Thread):
             child.kill()
 
 
-def submitter(client: int, lines: list[bytes], flush: int, pause: float, members: str, folder, told: Told) -> Submitter:
-    words = [sys.executable, CLUSTER / "submit.py", "--members", members, "--client", f"{client}", "--flush", f"{flush}",
-             "--pause", f"{pause:.3f}", "--wait", "--give-up", f"{GIVE_UP}"]
-    return Submitter(client, lines, fleet.Process(f"submit{client}", words, folder, b"".join(each + b"\n" for each in lines)), told)
+def submitter(client: int, lines: list[bytes], words: list[str], folder: pathlib.Path, told: Told) -> Submitter:
+    words = [sys.executable, CLUSTER / "submit.py", "--client", f"{client}", "--wait", "--give-up", f"{GIVE_UP}", *words]
+    given = b"".join(line + b"\n" for line in lines)
+    return Submitter(client, lines, fleet.Process(f"submit{client}", words, folder, given), told)
 
 
 class Caller(threading.Thread):
-    """A client of gateways. It asks one batch after the other, at another gateway where one is gone or says nothing; and some
-    batches once more, which have to be told the same."""
+    """A client of gateways. It asks one batch after the other, at another gateway where one is gone or says nothing;
+    and some batches once more, which have to be told the same."""
 
     def __init__(self, name: str, asked: list[bytes], flush: int, pause: float, gateways: list[tuple[str, int]],
                  numbers: random.Random, told: Told):
@@ -119,7 +120,7 @@ class Caller(threading.Thread):
             self.told.longest = max(self.told.longest, time.monotonic() - start)
 
     def once(self, batch: list[bytes]) -> bool:
-        """Asks a batch of the present gateway: whether all of it was told. What was told before it broke off counts too."""
+        """Asks a batch of the present gateway: whether all of it was told. What was told until it broke off counts."""
         outcomes = b""
         try:
             self.connection = self.connection or socket.create_connection(self.gateways[0], timeout=PATIENCE)
@@ -130,7 +131,8 @@ class Caller(threading.Thread):
         except OSError:
             pass
         whole = len(outcomes) // SIZE
-        wire.check_outcomes(outcomes[: whole * SIZE], b"".join(batch[:whole]))
-        for ask, outcome in zip(wire.read_frames(b"".join(batch[:whole])), wire.spell_outcomes(outcomes[: whole * SIZE])):
+        asked, outcomes = b"".join(batch[:whole]), outcomes[: whole * SIZE]
+        wire.check_outcomes(outcomes, asked)
+        for ask, outcome in zip(wire.read_frames(asked), wire.spell_outcomes(outcomes)):
             self.told.keep(ask, outcome)
         return whole == len(batch)

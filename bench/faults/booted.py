@@ -9,8 +9,9 @@ from network import Host
 
 BOOT_SECONDS, END_SECONDS = 30, 5
 # What needs hardware, or other machines. It isn't started.
-ABSENT = ["systemd-udevd.service", "systemd-udev-trigger.service", "systemd-timesyncd.service", "systemd-networkd.service",
-          "systemd-logind.service", "systemd-resolved.service", "getty.target", "apt-daily.timer", "apt-daily-upgrade.timer"]
+ABSENT = ["systemd-udevd.service", "systemd-udev-trigger.service", "systemd-timesyncd.service",
+          "systemd-networkd.service", "systemd-logind.service", "systemd-resolved.service", "getty.target",
+          "apt-daily.timer", "apt-daily-upgrade.timer"]
 BOOT = """
 set -e
 root=$1
@@ -38,7 +39,7 @@ class Booted:
         self.child: subprocess.Popen | None = None
 
     def lay(self) -> None:
-        """Lays its files over those of this machine. All machines' are to be laid before one boots, so that it sees them."""
+        """Lays its files over those of this machine. All are to be laid before one boots, so that it sees them."""
         below = f"lowerdir=/,upperdir={self.root.parent}/upper,workdir={self.root.parent}/work"
         subprocess.run(["mount", "-t", "overlay", "overlay", "-o", below, self.root], check=True)
         units = self.root / "etc" / "systemd" / "system"
@@ -54,7 +55,8 @@ class Booted:
         within = ["unshare", "--pid", "--fork", "--mount", "--uts", "--ipc", "--cgroup", "--kill-child"]
         start = ["sh", "-c", f"echo $$ > {self.group}/cgroup.procs; exec \"$@\"", "sh", *self.host.within, *within]
         words = [*start, "sh", "-c", BOOT, "boot", self.root, self.shared, self.name]
-        self.child = subprocess.Popen(words, stdin=subprocess.DEVNULL, stdout=subprocess.DEVNULL, stderr=subprocess.STDOUT)
+        nothing = subprocess.DEVNULL
+        self.child = subprocess.Popen(words, stdin=nothing, stdout=nothing, stderr=nothing)
         self.wait_for_boot()
 
     def wait_for_boot(self) -> None:
@@ -69,9 +71,9 @@ class Booted:
         first = self.first()
         if first is None:
             return subprocess.CompletedProcess([], 1, "", "it isn't there yet")
-        words = ["nsenter", "--target", first, "--mount", "--uts", "--ipc", "--net", "--pid", "--cgroup", "--root", "--wd",
-                 "env", "-i", "HOME=/root", "PATH=/usr/local/sbin:/usr/local/bin:/usr/sbin:/usr/bin:/sbin:/bin",
-                 "bash", "-c", command]
+        enter = ["nsenter", "--target", first, "--mount", "--uts", "--ipc", "--net", "--pid", "--cgroup", "--root", "--wd"]
+        clean = ["env", "-i", "HOME=/root", "PATH=/usr/local/sbin:/usr/local/bin:/usr/sbin:/usr/bin:/sbin:/bin"]
+        words = [*enter, *clean, "bash", "-c", command]
         return subprocess.run(words, capture_output=True, text=True, **options)
 
     def first(self) -> str | None:

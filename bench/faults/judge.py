@@ -36,7 +36,8 @@ class Judge:
         asks = [ask for entry in batches for ask in wire.read_batch(entry.value)]
         new = first_of_each(asks)
         for ask in new:
-            expect((ask.client, ask.request) not in self.bank.entries, f"{ask} isn't executed once more in {book.prefix}")
+            is_new = (ask.client, ask.request) not in self.bank.entries
+            expect(is_new, f"{ask} isn't executed once more in {book.prefix}")
             self.bank.take(ask)
         expected = b"".join(map(self.bank.outcome, asks))
         places = [place for machine in self.machines if not is_left_out(place := machine.place(book.prefix))]

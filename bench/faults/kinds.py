@@ -132,12 +132,22 @@ def feed_killed(trial: "Trial") -> Iterator[None]:
 def gateways_killed(trial: "Trial") -> Iterator[None]:
     for _ in range(3):
         gateway = trial.numbers.choice(trial.machines.all).gateway
+        # While no feed goes on, clients wait for their batches.
+        signal_feeds(trial, signal.SIGSTOP)
+        time.sleep(trial.numbers.uniform(0.1, 0.3))
         gateway.kill()
+        signal_feeds(trial, signal.SIGCONT)
         time.sleep(trial.numbers.uniform(0, 0.5))
         revive(gateway)
     gateway.kill()
     yield
     revive(gateway)
+
+
+def signal_feeds(trial: "Trial", number: signal.Signals) -> None:
+    for machine in trial.machines.all:
+        if machine.feed.child:
+            machine.feed.child.send_signal(number)
 
 
 @kind("a gateway that hangs")

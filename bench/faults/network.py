@@ -1,8 +1,8 @@
 """Machines with addresses of their own on this one, as network namespaces, whose links are cut and mended.
 
-Each machine is in two networks: one for clients, and one in which members of etcd reach each other. So a member can be cut
-off from the others while its clients still reach it. All of it is within a namespace of this program's own, and ends with it,
-however it ends: nobody else's network is touched."""
+Each machine is in two networks: one for clients, and one in which members of etcd reach each other. So a member can be
+cut off from the others while its clients still reach it. All of it is within namespaces of this program's own, and ends
+with it, however it ends: nobody else's network is touched."""
 import os
 import signal
 import subprocess
@@ -18,13 +18,14 @@ class NoNamespaces(Exception):
 
 
 def enter() -> None:
-    """Runs this program once more, within namespaces of its own, and ends with its status; there, it goes on. All that it
-    starts there ends with it."""
+    """Runs this program once more, within namespaces of its own, and ends with its status; there, it goes on. All that
+    it starts there ends with it."""
     if ENTERED in os.environ:
         prepare()
         return
     user = [] if os.geteuid() == 0 else ["--map-root-user"]
-    words = ["setpriv", "--pdeathsig", "KILL", "unshare", *user, "--net", "--mount", "--pid", "--fork", "--kill-child", "--mount-proc"]
+    words = ["setpriv", "--pdeathsig", "KILL", "unshare", *user, "--net", "--mount", "--mount-proc", "--pid", "--fork",
+             "--kill-child"]
     try:
         subprocess.run([*words, "ip", "link"], capture_output=True, check=True)
     except (OSError, subprocess.CalledProcessError) as fault:

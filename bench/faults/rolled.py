@@ -18,7 +18,8 @@ SECONDS = 60  # for which a roll-over lasts at most, with all that is killed
 def roller(trial: "Trial", prefix: str) -> fleet.Process:
     """A roll-over that has begun, at any machine."""
     machine: Machine = trial.numbers.choice(trial.machines.all)
-    roll = machine.script(f"roll{len(trial.machines.others)}", "roll.py", "--prefix", prefix, "--folder", machine.folder)
+    name = f"roll{len(trial.machines.others)}"
+    roll = machine.script(name, "roll.py", "--prefix", prefix, "--folder", machine.folder)
     trial.machines.others.append(roll)
     roll.start()
     return roll

@@ -58,8 +58,8 @@ class Trial:
             return judge.judge(self, mark)
 
     def begin(self) -> None:
-        """Has clients ask. The first one's lines are asked by two at once, in different batches; and some numbers of the third
-        one with other calls. Submitters take no part where the log rolls over: they don't know what it carries over."""
+        """Has clients ask. The first one's lines are asked by two at once, in different batches; and some numbers of the
+        third one with other calls. Submitters take no part in a roll-over: they don't know what it carries over."""
         lines = [load.calls(ASKS, self.numbers).splitlines() for _ in range(6)]
         self.caller("client1", 1, lines[0])
         self.caller("client1-again", 1, lines[0])
@@ -77,14 +77,14 @@ class Trial:
         self.numbers.shuffle(gateways)
         flush = self.numbers.randint(2, 20)
         pause = ASK_SECONDS / (len(lines) / flush)
-        numbers = random.Random(self.numbers.random())
-        self.clients.append(asking.Caller(name, asking.frames(client, lines), flush, pause, gateways, numbers, self.told))
+        numbers, asked = random.Random(self.numbers.random()), asking.frames(client, lines)
+        self.clients.append(asking.Caller(name, asked, flush, pause, gateways, numbers, self.told))
 
     def submitter(self, client: int, lines: list[bytes]) -> asking.Submitter:
-        nearest = self.numbers.choice(self.machines.hosts)
+        members = addresses(self.machines.hosts, self.numbers.choice(self.machines.hosts))
         flush = self.numbers.randint(5, 40)
-        pause = ASK_SECONDS / (ASKS / flush)
-        return asking.submitter(client, lines, flush, pause, addresses(self.machines.hosts, nearest), self.folder, self.told)
+        words = ["--members", members, "--flush", f"{flush}", "--pause", f"{ASK_SECONDS / (ASKS / flush):.3f}"]
+        return asking.submitter(client, lines, words, self.folder, self.told)
 
     def finish(self) -> None:
         """Waits until all clients were told all, and what else has to come has come."""
@@ -113,7 +113,7 @@ class Trial:
 
 
 def choose(numbers: random.Random, number: int, wanted: str | None) -> list[Kind]:
-    """One kind in turn, and up to two others beside it, in any order. Of those that take the whole cluster, just that one."""
+    """One kind in turn, and up to two others beside it, in any order, but that one that waits strikes first."""
     turns = sorted(KINDS, key=lambda kind: not kind.is_first)
     first = turns[(number - 1) % len(turns)] if wanted is None else next(kind for kind in KINDS if wanted in kind.name)
     others = [kind for kind in KINDS if kind is not first and not kind.is_large]

@@ -1,7 +1,7 @@
 """A role's settings: a TOML file with the options of its command line, each by its name, for instance `port = 4000`.
 
-`true` is an option without a value, and `false` none. A list is its words with commas between. An option that the command
-line gives too is as it says there."""
+`true` is an option without a value, and `false` none. A list is its words with commas between. An option that the
+command line gives too is as it says there."""
 import argparse
 import pathlib
 import sys
@@ -11,7 +11,8 @@ import tomllib
 def parse(words: argparse.ArgumentParser, given: list[str] | None = None) -> argparse.Namespace:
     """The options of the command line, and for those that aren't there the ones of its `--settings FILE`."""
     given = sys.argv[1:] if given is None else given
-    words.add_argument("--settings", type=pathlib.Path, metavar="FILE", help="a TOML file with options; those given here win")
+    words.add_argument("--settings", type=pathlib.Path, metavar="FILE",
+                       help="a TOML file with options; those given here win")
     ahead = argparse.ArgumentParser(add_help=False, allow_abbrev=False)
     ahead.add_argument("--settings", type=pathlib.Path)
     file = ahead.parse_known_args(given)[0].settings
