@@ -178,8 +178,19 @@ def submitters_killed(trial: "Trial") -> Iterator[None]:
     yield
 
 
-# ---- a full etcd
+# ---- etcd's space
 
+
+@kind("etcd compacted while a feed hangs", waits=True)
+def etcd_compacted(trial: "Trial") -> Iterator[None]:
+    feed = trial.pick().feed
+    feed.child.send_signal(signal.SIGSTOP)
+    time.sleep(trial.numbers.uniform(0.3, 1))
+    book = trial.machines.books()[0]
+    book.etcd.call("/v3/kv/compaction", {"revision": f"{book.look()[1]}"})
+    yield
+    if feed.child:
+        feed.child.send_signal(signal.SIGCONT)
 
 @kind("a full etcd", "--quota-backend-bytes", f"{SMALL_SPACE}", is_large=True, is_first=True, waits=True)
 def etcd_full(trial: "Trial") -> Iterator[None]:
