@@ -162,11 +162,20 @@ def gateway_hangs(trial: "Trial") -> Iterator[None]:
 
 @kind("a machine without power")
 def machine_off(trial: "Trial") -> Iterator[None]:
-    machine = trial.pick()
-    for process in machine.processes:
+    yield from off([trial.pick()])
+
+
+@kind("all machines without power")
+def all_off(trial: "Trial") -> Iterator[None]:
+    yield from off(trial.machines.all)
+
+
+def off(machines: list[Machine]) -> Iterator[None]:
+    processes = [process for machine in machines for process in machine.processes]
+    for process in processes:
         process.kill()
     yield
-    for process in machine.processes:
+    for process in processes:
         revive(process)
 
 
