@@ -10,7 +10,7 @@ import judge  # noqa: F401  (puts the folder of log_file on the path)
 import log_file
 import wire
 from checks import expect
-from kinds import SECONDS, kind
+from kinds import SECONDS, kind, revive
 from machines import Machine
 
 if TYPE_CHECKING:
@@ -86,7 +86,7 @@ def log_cut(trial: "Trial") -> Iterator[None]:
     data = path.read_bytes()
     path.write_bytes(data[: trial.numbers.randint(log.ends[0], len(data))])
     yield
-    machine.bank.start()
+    revive(machine.bank)
 
 
 @kind("a bank whose log is damaged", keeps_log=True, stays=True, waits=True)
@@ -100,6 +100,7 @@ def log_damaged(trial: "Trial") -> Iterator[None]:
     fleet.wait_for("a bank that finds damage", SECONDS, lambda: machine.bank.status() is not None)
     expect(machine.bank.status() == DAMAGED, f"a damaged log is told by status 3, not {machine.bank.status()}")
     yield
+    machine.bank.kill()
     cut = [trial.machines.settings.program, "log", path.parent, "--cut"]
     subprocess.run(cut, stdout=subprocess.DEVNULL, check=True)
     machine.bank.start()
