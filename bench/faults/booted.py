@@ -81,6 +81,11 @@ class Booted:
         children = pathlib.Path(f"/proc/{self.child.pid}/task/{self.child.pid}/children").read_text().split()
         return children[0] if children else None
 
+    def remove(self) -> None:
+        """Its files are gone, once it is off."""
+        subprocess.run(["umount", self.root], check=True)
+        shutil.rmtree(self.root.parent)
+
     def end(self) -> None:
         """It is off, as if its power was cut."""
         if self.child:
