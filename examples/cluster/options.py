@@ -5,6 +5,7 @@ import pathlib
 import ssl
 from collections.abc import Iterable
 
+import settings
 from etcd import Access, Etcd, Tell
 
 # Each of them may also stand in the environment, as SMALLBANK_USER does.
@@ -58,8 +59,8 @@ def add_status(words: argparse.ArgumentParser) -> None:
 
 
 def parse(words: argparse.ArgumentParser) -> argparse.Namespace:
-    """The options, with `access` to etcd. Words at fault end the program with status 2."""
-    options = words.parse_args()
+    """The options, also those of a settings file, with `access` to etcd. Words at fault end the program with status 2."""
+    options = settings.parse(words)
     try:
         options.access = access(options)
     except (OSError, ValueError) as fault:
