@@ -189,7 +189,10 @@ class Demo:
     def stray(self, name: str, has_log: bool, told: str) -> None:
         """A bank joins whose opening has a cent more. Its feed has to find it: by its log, or at the last mark."""
         program = self.fleet.folder / f"{name}.program"
-        program.write_text(f"#!/bin/sh\nsed '1s/1000.00/1000.01/' | exec {self.fleet.program} \"$@\"\n")
+        # No pipe: the bank takes the shell's place, so that it ends with who started it.
+        opening = self.fleet.folder / f"{name}.opening"
+        change = f"sed '1s/1000.00/1000.01/' > {opening}"
+        program.write_text(f"#!/bin/sh\n{change} && exec {self.fleet.program} \"$@\" < {opening}\n")
         program.chmod(0o755)
         rich = Node(name, self.fleet, has_log=has_log, program=program)
         rich.start()
