@@ -15,6 +15,7 @@ from xml.sax.saxutils import escape
 # The words of each event, and its notes beside `nothing`.
 EVENTS = {
     "ask": ("client request call", "new N|repeat N|mismatch N|log full"),
+    "append": ("client request call", "new N|repeat N|mismatch N|log full"), "sync": ("", "synced N"), "crash": ("kept", "crashed N"),
     "send": ("replica entry", "sent N"), "resend": ("replica", "resent FEW"),
     "to": ("replica place", "repeat N|gap N|held N|busy N|accepted N"), "next": ("replica", "busy N|accepted N"),
     "ack": ("replica", "sent N"), "answer": ("replica entry", "sent N"), "have": ("replica", "sent N"),
@@ -29,18 +30,20 @@ CUSTOMER = f"[a-z0-9_]{{1,20}} {MONEY} {MONEY}"
 SPELLED = {"call": "[-.a-z0-9_ ]+", "how": "ok|old|new", "N": NUMBER, "FEW": r"\d|1[0-6]", "MONEY": MONEY, "REPLY": "[-.a-z0-9 ]+"}
 SENDS = {"send": "to", "resend": "to", "ack": "from", "answer": "from", "have": "from", "give": "state"}
 COMES = {"to": "to", "from": "from", "adopt": "state"}
-AT_SEQUENCER = {"ask", "send", "resend", "from", "donor"}
+AT_SEQUENCER = {"ask", "append", "sync", "crash", "send", "resend", "from", "donor"}
 
 # What a row says before its note, and which words may vary where events come again and again.
-SAYS = {"ask": "ask {client} {request} {call}", "send": "send entry {entry}", "resend": "resend {entries}", "next": "next",
-        "ack": "ack: log's length", "answer": "answer {entry}", "have": "have: checkpoint's length",
-        "take": "worker {worker}", "finish": "worker {worker}", "mark": "mark {how}", "donor": "for replica {replica}:",
-        "give": "give to replica {taker}", "audit": "audit {replica} {other}"}
-VARIES = {"ask": "request call", "send": "entry", "to": "place", "from": "place", "answer": "entry"}
+SAYS = {"ask": "ask {client} {request} {call}", "append": "append {client} {request} {call}", "crash": "crash {kept}",
+        "send": "send entry {entry}", "resend": "resend {entries}", "next": "next", "ack": "ack: log's length",
+        "answer": "answer {entry}", "have": "have: checkpoint's length", "take": "worker {worker}", "finish": "worker {worker}",
+        "mark": "mark {how}", "donor": "for replica {replica}:", "give": "give to replica {taker}",
+        "audit": "audit {replica} {other}"}
+VARIES = {"ask": "request call", "append": "request call", "send": "entry", "to": "place", "from": "place", "answer": "entry"}
+SYNCS = {"ask", "sync", "crash"}  # after these no ask waits for its sync
 TROUBLE = {"mismatch", "log", "gap", "busy", "hand", "stranger", "store", "behind", "apart", "pending"}
 LONGEST, OFTEN = 4, 4  # of events that come again, so many at most, and at least so often
 
-WIDTH, LEFT, RIGHT, TOP, STEP = 1000, 320, 780, 194, 20
+WIDTH, LEFT, RIGHT, TOP, STEP = 1000, 320, 780, 212, 20
 HALF, MARGIN, LETTER = 8, 58, 7  # half a column's band, where words may begin, and how wide a letter is, about
 STYLE = """text{font:12px Arial,Helvetica,'Liberation Sans','DejaVu Sans',sans-serif;fill:#222;paint-order:stroke;stroke:#fff;stroke-width:3px}
 .right{text-anchor:end}.middle{text-anchor:middle}.small{font-size:10px;fill:#666}.title{font-size:18px}tspan,.head{font-weight:bold}
@@ -48,7 +51,9 @@ STYLE = """text{font:12px Arial,Helvetica,'Liberation Sans','DejaVu Sans',sans-s
 .life1{fill:#f6e2bd}.to{stroke:#1f5fa8}.from{stroke:#187a4d}.state{stroke:#8031a7;stroke-width:2.6px;stroke-dasharray:8 3}
 .again{stroke-dasharray:2 3}.job{fill:#555}.stranger{fill:#fff;stroke:#b3261e}
 .on{fill:#222;stroke:#222}.off{fill:#fff;stroke:#222}.restart{stroke:#b3261e;stroke-width:4px}.adopt{stroke:#8031a7;stroke-width:4px}
-.audit{stroke:#777;stroke-dasharray:1 3;stroke-width:2px}.bracket{stroke:#999}.refused{fill:#fff;stroke:#b3261e}.ask{fill:#666}"""
+.audit{stroke:#777;stroke-dasharray:1 3;stroke-width:2px}.bracket{stroke:#999}.refused{fill:#fff;stroke:#b3261e}.ask{fill:#666}
+.unsynced{fill:#fff;stroke:#bbb;stroke-dasharray:3 3}.pale{fill:#bbb}.sync{stroke:#444;stroke-width:3px}
+.crash{stroke:#b3261e;stroke-width:3px}.lost,.lost tspan{fill:#888;text-decoration:line-through}"""
 # How arrows end.
 HEADS = {"to": 'd="M-8 -4L0 0L-8 4z" style="fill:#1f5fa8"', "from": 'd="M-8 -4L0 0L-8 4z" style="fill:#187a4d"',
          "state": 'd="M-8 -4L0 0L-8 4z" style="fill:#8031a7"', "lost": 'd="M-4 -4l8 8m0 -8l-8 8" style="stroke:#b3261e;stroke-width:2px"'}
@@ -72,10 +77,15 @@ SIGNS = {
     "ask": ('<circle class="ask" r="3"/>', "ask, also for a donor"),
     "cut": ('<path class="off" d="M0 -6l6 6l-6 6l-6 -6z"/>', "cut"),
     "audit": ('<path class="audit" d="M-14 0h28"/>', "audit of two replicas"),
+    "append": ('<circle class="pale" r="3"/>', "pale: not synced yet"),
+    "synced": ('<path class="sync" d="M-10 0h20"/>', "sync"),
+    "crashed": ('<path class="crash" d="M-12 0l4 -5l4 9l4 -9l4 9l4 -9l4 5"/>', "crash of the sequencer"),
+    "struck": ('<text class="lost middle" y="4">ask</text>', "lost in a crash"),
 }
 # By a note's first word, or else by the event.
 SIGN_OF = {"marked": "marked", "restarted": "restarted", "adopted": "adopted", "held": "held", "gap": "refused", "busy": "refused",
-           "nothing": "", "ask": "ask", "donor": "ask", "next": "next", "cut": "cut", "mark": "unmarked"}
+           "nothing": "", "synced": "synced", "crashed": "crashed", "ask": "ask", "append": "ask", "donor": "ask", "next": "next",
+           "cut": "cut", "mark": "unmarked"}
 
 
 class Fault(Exception):
@@ -84,11 +94,12 @@ class Fault(Exception):
 
 @dataclass
 class Event:
-    """An event with its line in the schedule, its words by name, its note, and where its row is drawn."""
+    """An event with its line in the schedule, its words by name, its note, whether a crash took its ask, and where its row is drawn."""
     line: int
     text: str
     words: dict
     note: str = ""
+    is_lost: bool = False
     y: int = 0
 
     def __post_init__(self):
@@ -102,6 +113,12 @@ class Event:
     def number(self):
         """The note's first number."""
         return int(re.search(r"\d+", self.note)[0])
+
+    @property
+    def sign(self):
+        """The name of its sign, if it has one."""
+        is_pale = self.kind == "append" and self.said == "new"
+        return "append" if is_pale else SIGN_OF.get(self.said, SIGN_OF.get(self.kind))
 
 
 @dataclass
@@ -152,7 +169,7 @@ def read_event(path, place, line):
     names = EVENTS[kind][0].split()
     spelled = re.fullmatch(" ".join([kind, *(f"({SPELLED.get(it, NUMBER)})" for it in names)]), line)
     if not spelled:
-        raise Fault(f"{path}: line {place}: {kind} wants {', '.join(names)}: {line}")
+        raise Fault(f"{path}: line {place}: {kind} wants {', '.join(names) or 'nothing'}: {line}")
     return Event(place, line, {name: int(it) if it.isdigit() else it for name, it in zip(names, spelled.groups())})
 
 
@@ -177,15 +194,29 @@ def read_output(path, schedule):
 
 
 class Story:
-    """What goes across rows: all that was sent, the jobs in hands, and where each replica's lives begin."""
+    """What goes across rows: all that was sent, the jobs in hands, where each replica's lives begin, and where asks weren't synced."""
 
     def __init__(self, schedule):
-        self.schedule, self.flights, self.jobs, self.lives = schedule, [], [], defaultdict(list)
-        self.sent, self.hands, self.recorded = defaultdict(list), {}, Counter()
+        self.schedule, self.flights, self.jobs, self.lives, self.pales = schedule, [], [], defaultdict(list), []
+        self.sent, self.hands, self.recorded, self.unsynced = defaultdict(list), {}, Counter(), []
         for event in schedule.events:
             if event.note != "nothing" and "replica" in event.words:
                 self.follow(event)
+            self.log(event)
         self.jobs += [(*hand, took, None) for hand, took in self.hands.items()]
+        self.pales += [(event, None) for event in self.unsynced[:1]]
+
+    def log(self, event):
+        """What an event does to the log: an ask joins it, all of it is synced, or a crash takes some of its end."""
+        if event.kind == "append" and event.said == "new":
+            self.unsynced.append(event)
+        if event.kind == "crash":
+            self.recorded.clear()
+            for ask in self.unsynced:
+                ask.is_lost = ask.number > event.number
+        if event.kind in SYNCS:
+            self.pales += [(ask, event) for ask in self.unsynced[:1]]
+            self.unsynced = []
 
     def want(self, holds, event, why):
         if not holds:
@@ -233,7 +264,7 @@ class Story:
 def shape(event):
     """What events have in common that come again and again."""
     varies = VARIES.get(event.kind, "").split()
-    return event.kind, event.said, *(value for name, value in event.words.items() if name not in varies)
+    return event.kind, event.said, event.is_lost, *(value for name, value in event.words.items() if name not in varies)
 
 
 def rows_of(events):
@@ -318,13 +349,16 @@ class Picture:
             x, y = 30 + place % 4 * 246, 52 + place // 4 * 18
             self.parts.append(f'<use href="#{name}" x="{x}" y="{y}"/>')
             self.text("", x + 22, y, words)
-        self.text("small", 16, 140, "Numbers on the left are lines of the schedule, and bold words are notes. An ask names its client, "
+        self.text("small", 16, 158, "Numbers on the left are lines of the schedule, and bold words are notes. An ask names its client, "
                   "its request and the call.")
 
     def columns(self):
         """The sequencer, and the lives of each replica."""
         self.text("head right", LEFT + HALF, TOP - 26, "sequencer")
         self.band("sequencer", LEFT - HALF, TOP - 14, self.bottom - 6)
+        for begin, end in sorted({(ask.y, until.y if until else self.bottom - 6) for ask, until in self.story.pales}):
+            if begin != end:
+                self.band("unsynced", LEFT - HALF, min(begin, end), max(begin, end))
         for replica in range(self.schedule.nodes):
             x = self.x(replica + 1)
             self.text("head middle", x, TOP - 26, f"replica {replica}" if self.gap > 70 else replica)
@@ -373,12 +407,12 @@ class Picture:
             ends = sorted((column, first.words["other"] + 1))
             self.path("audit", f"M{self.x(ends[0]) - 12} {first.y}H{self.x(ends[1]) + 12}")
             column = ends[1]
-        elif name := SIGN_OF.get(first.said, SIGN_OF.get(first.kind)):
+        elif name := first.sign:
             self.parts.append(f'<use href="#{name}" x="{self.x(column)}" y="{first.y}"/>')
         about = f"line {first.line}: {first.text} | {first.note}"
         if len(row) > 1:
             about = f"{len(row)} lines from {first.line} to {row[-1].line}"
-        kind = "trouble" if first.said in TROUBLE else first.said if first.said == "nothing" else ""
+        kind = "lost" if first.is_lost else "trouble" if first.said in TROUBLE else first.said if first.said == "nothing" else ""
         self.write(column, first.y - (6 if first.said == "gave" else 0), says, note, kind, about)
         self.text("small right", 26, first.y, first.line)
         if block:
@@ -389,9 +423,10 @@ class Picture:
     def draw(self, title):
         """The whole picture, as text."""
         events, sent = len(self.schedule.events), len(self.story.flights)
-        lost = sum(not it.came for it in self.story.flights)
+        lost, asks = sum(not it.came for it in self.story.flights), sum(it.is_lost for it in self.schedule.events)
         about = (f"A sequencer, replicas: {self.schedule.nodes}, workers of each: {self.schedule.workers}, and from the top down "
-                 f"{events} events with their notes. {sent} frames and states are sent, and {lost} of them are never delivered.")
+                 f"{events} events with their notes. {sent} frames and states are sent, and {lost} of them are never delivered."
+                 f"{f' Asks that crashes take: {asks}.' if asks else ''}")
         self.text("title", 16, 26, escape(title))
         for part in (self.legend, self.columns, self.flights, self.jobs):
             part()

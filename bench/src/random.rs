@@ -1,5 +1,8 @@
 //! Numbers that look random, from a seed (SplitMix64).
 
+/// What the state grows by with each number.
+pub const STEP: u64 = 0x9e37_79b9_7f4a_7c15;
+
 pub struct Random {
     state: u64,
 }
@@ -10,7 +13,7 @@ impl Random {
     }
 
     fn next(&mut self) -> u64 {
-        self.state = self.state.wrapping_add(0x9e37_79b9_7f4a_7c15);
+        self.state = self.state.wrapping_add(STEP);
         let mut mixed = self.state;
         mixed = (mixed ^ (mixed >> 30)).wrapping_mul(0xbf58_476d_1ce4_e5b9);
         mixed = (mixed ^ (mixed >> 27)).wrapping_mul(0x94d0_49bb_1331_11eb);

@@ -53,18 +53,92 @@ fn check_fault(schedule: &str, fault: &str) {
 const ALICE_HAS_ONE_MORE: &str = "replica 0 length 1 idle / alice 100.00 51.00 / bob 0.00 20.00 \
      / carol 10.00 0.00 / total 181.00";
 
+// Jobs are taken out of their order.
+const FOUR_CALLS: &str = "ask 1 1 deposit alice 1.00 / ask 1 2 deposit bob 1.00 / ask 1 3 amalgamate alice bob \
+     / ask 1 4 balance alice / send 0 1 / send 0 2 / send 0 3 / send 0 4 / to 0 1 / to 0 2 / to 0 3 / to 0 4 \
+     / take 0 1 1 / take 0 2 0 / finish 0 1 / take 0 1 0 / finish 0 2 / take 0 1 0 / take 0 2 0 \
+     / finish 0 1 / take 0 1 0 / finish 0 1";
+const FOUR_NOTES: &str = "new 1 / new 2 / new 3 / new 4 / sent 1 / sent 2 / sent 3 / sent 4 \
+     / accepted 1 / accepted 2 / accepted 3 / accepted 4 \
+     / took 2 / took 1 / finished 2 done / nothing / finished 1 done / took 3 / nothing \
+     / finished 3 done / took 4 / finished 4 shown 0.00";
+const ALL_IS_WITH_BOB: &str =
+    "replica 0 length 4 idle / alice 0.00 0.00 / bob 0.00 172.00 / carol 10.00 0.00 / total 182.00";
+
 #[test]
 fn jobs_taken_out_of_order() {
+    check(FOUR_CALLS, FOUR_NOTES, ALL_IS_WITH_BOB);
+}
+
+#[test]
+fn a_crash_at_every_place_takes_nothing_that_is_synced() {
+    let events: Vec<&str> = FOUR_CALLS.split(" / ").collect();
+    let notes: Vec<&str> = FOUR_NOTES.split(" / ").collect();
+    assert_eq!((events.len(), notes.len()), (22, 22));
+    for place in 0..=events.len() {
+        // The first four events are asks.
+        let crashed = format!("crashed {}", place.min(4));
+        let with = |lines: &[&str], line: &str| {
+            let (before, after) = lines.split_at(place);
+            [before, &[line], after].concat().join(" / ")
+        };
+        check(
+            &with(&events, "crash 0"),
+            &with(&notes, &crashed),
+            ALL_IS_WITH_BOB,
+        );
+    }
+}
+
+#[test]
+fn a_number_that_is_lost_is_given_again() {
     check(
-        "ask 1 1 deposit alice 1.00 / ask 1 2 deposit bob 1.00 / ask 1 3 amalgamate alice bob \
-         / ask 1 4 balance alice / send 0 1 / send 0 2 / send 0 3 / send 0 4 / to 0 1 / to 0 2 / to 0 3 / to 0 4 \
-         / take 0 1 1 / take 0 2 0 / finish 0 1 / take 0 1 0 / finish 0 2 / take 0 1 0 / take 0 2 0 \
-         / finish 0 1 / take 0 1 0 / finish 0 1",
-        "new 1 / new 2 / new 3 / new 4 / sent 1 / sent 2 / sent 3 / sent 4 \
-         / accepted 1 / accepted 2 / accepted 3 / accepted 4 \
-         / took 2 / took 1 / finished 2 done / nothing / finished 1 done / took 3 / nothing \
-         / finished 3 done / took 4 / finished 4 shown 0.00",
-        "replica 0 length 4 idle / alice 0.00 0.00 / bob 0.00 172.00 / carol 10.00 0.00 / total 182.00",
+        "ask 1 1 deposit alice 1.00 / append 1 2 deposit alice 2.00 / send 0 2 / send 0 1 / crash 1 \
+         / ask 1 3 deposit bob 3.00 / append 1 2 deposit alice 2.00 / ask 1 1 deposit alice 1.00 / sync / resend 0 \
+         / to 0 1 / to 0 2 / to 0 3 / to 0 4",
+        "new 1 / new 2 / nothing / sent 1 / crashed 1 \
+         / new 2 / new 3 / repeat 1 / synced 3 / resent 3 \
+         / accepted 1 / repeat 1 / accepted 2 / accepted 3",
+        "replica 0 length 3 busy",
+    );
+}
+
+#[test]
+fn a_crash_forgets_what_was_recorded_and_kept() {
+    check(
+        "append 1 1 deposit alice 1.00 / crash 0 / append 1 1 deposit alice 2.00 / sync / send 0 1 / to 0 1 \
+         / take 0 1 0 / finish 0 1 / ack 0 / answer 0 1 / from 0 1 / from 0 2 / crash 0 \
+         / append 1 1 deposit alice 2.00 / resend 0 / from 0 2 / from 0 1 / resend 0",
+        "new 1 / crashed 0 / new 1 / synced 1 / sent 1 / accepted 1 \
+         / took 1 / finished 1 done / sent 1 / sent 2 / recorded 1 / kept 1 / crashed 1 \
+         / repeat 1 / resent 1 / kept 1 / recorded 1 / resent 0",
+        "replica 0 length 1 idle / alice 100.00 52.00 / bob 0.00 20.00 / carol 10.00 0.00 / total 182.00",
+    );
+}
+
+#[test]
+fn a_crash_keeps_a_beginning_of_what_is_not_synced() {
+    check(
+        "append 1 1 deposit alice 1.00 / append 1 2 deposit bob 1.00 / append 1 3 balance alice / crash 2 \
+         / append 1 3 balance bob / append 1 2 deposit bob 2.00 / crash 4294967295 / crash 0 / append 1 4 balance bob \
+         / resend 0 / send 0 4 / append 1 4 balance bob / ask 1 4 balance carol / send 0 4",
+        "new 1 / new 2 / new 3 / crashed 2 \
+         / new 3 / mismatch 2 / crashed 3 / crashed 3 / new 4 \
+         / resent 3 / nothing / repeat 4 / mismatch 4 / sent 4",
+        "replica 0 length 0 idle / alice 100.00 50.00 / bob 0.00 20.00 / carol 10.00 0.00 / total 180.00",
+    );
+}
+
+#[test]
+fn a_crash_forgets_the_checkpoints_of_donors() {
+    check_both(
+        &format!(
+            "{ONE_IS_KEPT} / have 0 / from 0 1 / donor 1 / crash 0 / donor 1 / from 0 1 / donor 1 / crash 1"
+        ),
+        &format!(
+            "{ONE_WAS_MARKED} / sent 1 / has 1 / donor 0 1 / crashed 1 / nothing / has 1 / donor 0 1 / crashed 1"
+        ),
+        [ALICE_HAS_ONE_MORE, SECOND_AT_THE_OPENING],
     );
 }
 
@@ -396,6 +470,12 @@ fn the_first_fault_counts_and_nothing_is_written() {
     check_fault(&after("adopt 0 1 1"), "line 7: wrong words");
     check_fault(&after("give 0 01"), "line 7: bad number");
     check_fault(&after("donors 0"), "line 7: unknown event");
+    check_fault(&after("sync 0"), "line 7: wrong words");
+    check_fault(&after("sync "), "line 7: wrong words");
+    check_fault(&after("crash"), "line 7: wrong words");
+    check_fault(&after("crash 01"), "line 7: bad number");
+    check_fault(&after("append 1"), "line 7: wrong words");
+    check_fault(&after("append 0 1 ask"), "line 7: unknown verb");
     check_fault(&after("ask 1"), "line 7: wrong words");
     check_fault(&after("ask 01 1"), "line 7: bad number");
     check_fault(&after("ask 0 1"), "line 7: unknown verb");
@@ -411,6 +491,7 @@ fn the_stories_of_the_examples() {
         "a_job_outlives_its_replica",
         "marks_that_fail",
         "a_replica_far_behind",
+        "a_sequencer_restarts",
     ] {
         let text = |ending| fs::read_to_string(folder.join(format!("{story}.{ending}")));
         let schedule = text("schedule").expect("the story is there");

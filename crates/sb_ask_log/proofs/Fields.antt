@@ -15,7 +15,7 @@ use Rattle.sb_frames.proofs.Sizes.{body_size}
 use Rattle.sb_sequencer.specs.Numbering.{ask_of_number}
 use Rattle.sb_ask_log.specs.Asks.{IsAsk, asks_field, ask_frame}
 
-spelling_size : (frame : Frame) → IsFrame frame → length (spelling frame) ≤ 66
+pub spelling_size : (frame : Frame) → IsFrame frame → length (spelling frame) ≤ 66
 unfolding spelling
 spelling_size frame valid = omega (arith, length-append (to_be_bytes w16 (length (body frame))) (body frame), body_size frame valid)
 

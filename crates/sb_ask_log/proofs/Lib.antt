@@ -7,3 +7,4 @@ pub mod Openings
 pub mod Saving
 pub mod Replays
 pub mod Recovering
+pub mod MemoryLogs

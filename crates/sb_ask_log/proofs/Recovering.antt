@@ -116,7 +116,7 @@ abbrev pub all_told : List (List ℕ) → Life
 all_told done = record { content = records done; synced = length (records done); given = done; told = done; healthy = true }
 
 -- a newborn file to which bodies are appended, and that is synced then, was told them
-tells_all : (done bodies : List (List ℕ)) → All IsBody bodies → HappensAll (appended done) (map Append bodies ++ Sync ∷ []) (all_told (done ++ bodies))
+pub tells_all : (done bodies : List (List ℕ)) → All IsBody bodies → HappensAll (appended done) (map Append bodies ++ Sync ∷ []) (all_told (done ++ bodies))
 tells_all done [] fit = (all_told done, (refl, refl), ap all_told (append-nil done))
 tells_all done (body ∷ bodies) fit =
     let longer = done ++ body ∷ [] in
@@ -176,7 +176,7 @@ recovered_empty content content_new synced synced_new bodies rest end new l m r 
 -- ---- what was told is read
 
 -- bodies that begin with those of a log
-read_behind : (told bodies : List (List ℕ)) (text read_text : List ℕ) (asks read : List (Key × Call)) → AreBodiesOf told text asks → Begins told bodies
+pub read_behind : (told bodies : List (List ℕ)) (text read_text : List ℕ) (asks read : List (Key × Call)) → AreBodiesOf told text asks → Begins told bodies
     → AreRead bodies read_text read → AreBodiesOf bodies read_text read
 read_behind told [] text read_text asks read are begins it =
     let none : [] ≡ (log_magic ++ text) ∷ _ = begins.1 ∙ ap (λ (l : List (List ℕ)). l ++ begins.0) are.bodies_are in

@@ -7,6 +7,7 @@ mod creation;
 mod keeper;
 mod laws;
 mod log_in_file;
+mod memory_log;
 mod opening_text;
 
 pub use ask_log::AskLog;
@@ -14,7 +15,10 @@ pub use creation::create_asks;
 pub use keeper::{Keeper, NoKeeper};
 pub use laws::recovers_what_it_told;
 pub use log_in_file::{LogInFile, read_asks, recover_asks};
+pub use memory_log::{ASK_RECORD, MemoryLog};
 pub use opening_text::is_opening_text;
 
+#[cfg(test)]
+mod memory_log_tests;
 #[cfg(test)]
 mod tests;

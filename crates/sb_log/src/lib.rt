@@ -28,7 +28,7 @@ pub use log_fault::LogFault;
 pub use log_file::LogFile;
 pub use memory_file::MemoryFile;
 pub use reading::read_log;
-pub use record::HEAD;
+pub use record::{HEAD, with_body, write_head};
 pub use recovery::recover;
 pub use replay::{Replay, ReplayFault};
 pub use system_file::{Reason, SystemFile};

@@ -1,9 +1,9 @@
 //! A file in memory that can crash.
-ghost use Rattle.std.specs.Prelude.{◌≡◌, [], false, max, take};
+ghost use Rattle.std.specs.Prelude.{◌≡◌, ◌++◌, ◌+◌, ◌≤◌, [], false, length, max, take, IfOk, OnOk};
 
 use crate::log_file::LogFile;
 use sb_text::ReadFault;
-use std::alloc::Global;
+use std::alloc::{AllocError, Global};
 use std::io;
 use std::io::ErrorKind;
 use std::marker::Model;
@@ -17,6 +17,7 @@ pub struct MemoryFile {
 }
 
 impl Model for MemoryFile {
+    ghost use Rattle.std.specs.Prelude.{◌-◌, length, vec_capacity};
     ghost use Rattle.sb_log.specs.MemoryFile.{MemoryFileOf};
 
     ghost Value = { MemoryFileOf };
@@ -25,13 +26,16 @@ impl Model for MemoryFile {
       content = f.bytes.items;
       synced = f.synced;
       failed = f.failed;
+      room = vec_capacity f.bytes - length f.bytes.items;
     } };
 }
 
 impl MemoryFile {
     /// An empty file.
     pub fn new(alloc: Global) -> MemoryFile
-        ensures { result ≡ record { content = []; synced = 0; failed = false } }
+        ensures content { result.content ≡ [] }
+        ensures synced { result.synced ≡ 0 }
+        ensures failed { result.failed ≡ false }
     {
         MemoryFile {
             bytes: Vec::new(alloc),
@@ -40,11 +44,56 @@ impl MemoryFile {
         }
     }
 
+    /// Makes room for so many more bytes, so that appending them can't fail. Fails if memory is refused.
+    pub fn reserve(&mut self, additional: usize) -> Result<(), AllocError>
+        ensures content { self.new.content ≡ self.old.content }
+        ensures synced { self.new.synced ≡ self.old.synced }
+        ensures failed { self.new.failed ≡ self.old.failed }
+        ensures room { OnOk result (additional ≤ self.new.room) }
+    {
+        self.bytes.reserve(additional)
+    }
+
+    /// Appends these bytes, for which there is room. It takes no memory.
+    pub fn append_reserved(&mut self, bytes: &[u8])
+        requires { length bytes.now ≤ self.old.room }
+        ensures content { self.new.content ≡ self.old.content ++ bytes.now }
+        ensures synced { self.new.synced ≡ self.old.synced }
+        ensures failed { self.new.failed ≡ self.old.failed }
+        ensures room { self.old.room ≤ self.new.room + length bytes.now }
+    {
+        self.bytes.extend_from_slice(bytes).unwrap();
+    }
+
+    /// Has all its bytes synced.
+    pub fn mark_synced(&mut self)
+        ensures { self.new ≡ record self.old { synced = length self.old.content } }
+    {
+        self.synced = self.bytes.len();
+    }
+
     /// Stops the machine: so many bytes are left, but at least those that are synced.
     pub fn crash(&mut self, kept: usize)
-        ensures { self.new ≡ record self.old { content = take (max self.old.synced kept) self.old.content } }
+        ensures content { self.new.content ≡ take (max self.old.synced kept) self.old.content }
+        ensures synced { self.new.synced ≡ self.old.synced }
+        ensures failed { self.new.failed ≡ self.old.failed }
     {
         self.bytes.truncate(self.synced.max(kept));
+    }
+
+    /// A file of its own with what a stop of the machine leaves of this one: so many bytes, but at
+    /// least those that are synced. Fails if memory is refused.
+    pub fn crashed(&self, alloc: Global, kept: usize) -> Result<MemoryFile, AllocError>
+        ensures content { IfOk result (λ left. left.content ≡ take (max self.now.synced kept) self.now.content) }
+        ensures synced { IfOk result (λ left. left.synced ≡ self.now.synced) }
+        ensures failed { IfOk result (λ left. left.failed ≡ false) }
+    {
+        let left = self.synced.max(kept).min(self.bytes.len());
+        Ok(MemoryFile {
+            bytes: Vec::from_slice(alloc, &self.bytes[..left])?,
+            synced: self.synced,
+            failed: false,
+        })
     }
 
     /// Its bytes.
@@ -81,7 +130,7 @@ impl LogFile for MemoryFile {
     }
 
     fn sync(&mut self) -> io::Result<()> {
-        self.synced = self.bytes.len();
+        self.mark_synced();
         Ok(())
     }
 

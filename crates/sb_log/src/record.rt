@@ -33,7 +33,7 @@ pub(crate) fn digest_of(hasher: &Sha256) -> [u8; 32]
 }
 
 /// A hasher that holds these bytes behind those that another one holds.
-pub(crate) fn with_body(hasher: &Sha256, body: &[u8]) -> Sha256
+pub fn with_body(hasher: &Sha256, body: &[u8]) -> Sha256
     ensures { (m : List ℕ) → Holds256 hasher.now m → Holds256 result (m ++ body.now) }
 {
     let mut longer = hasher.clone().unwrap();
@@ -41,8 +41,9 @@ pub(crate) fn with_body(hasher: &Sha256, body: &[u8]) -> Sha256
     longer
 }
 
-/// Writes the head of a record before its body, whose digest is that of what a hasher holds.
-pub(crate) fn write_head(bytes: &mut [u8], hasher: &Sha256)
+/// Writes the head of a record before its body. The hasher holds the bytes of all bodies up to and
+/// with this one. The first [`HEAD`] bytes are the head's, and the body stays.
+pub fn write_head(bytes: &mut [u8], hasher: &Sha256)
     requires head { HEAD ≤ length bytes.old }
     requires body { spec.IsBody (drop HEAD bytes.old) }
     ensures record { (before : List ℕ) → Holds256 hasher.now (before ++ drop HEAD bytes.old)

@@ -17,6 +17,15 @@ pub record SequencerOf : Type 0 where
   pub checkpoints : List ℕ
   pub answers : List (Option Reply)
 
+-- a sequencer for this many replicas, with this log, to which nothing was reported
+abbrev pub sequencer_with : ℕ → List (Key × Call) → SequencerOf
+sequencer_with nodes log = record {
+  log = log;
+  recorded = replicate nodes 0;
+  checkpoints = replicate nodes 0;
+  answers = replicate (length log) None;
+}
+
 -- a sequencer for this many replicas, with an empty log
 abbrev pub empty_sequencer : ℕ → SequencerOf
 empty_sequencer nodes = record {

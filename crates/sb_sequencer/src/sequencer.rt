@@ -8,7 +8,7 @@ ghost use Rattle.sb_sequencer.specs.Entries.{entries_after, entry_of, entries_to
 ghost use Rattle.sb_sequencer.specs.Log.{log_with};
 ghost use Rattle.sb_sequencer.specs.Notes.{IsAnswerNote, after_ack, after_answer, answer_of, note_of_ack};
 ghost use Rattle.sb_sequencer.specs.Numbering.{IsLog, ask_of_number, call_of_number, calls_of, number_of_key};
-ghost use Rattle.sb_sequencer.specs.Sequencer.{IsSequencer, state_after_ask, empty_sequencer};
+ghost use Rattle.sb_sequencer.specs.Sequencer.{IsSequencer, state_after_ask, empty_sequencer, sequencer_with};
 
 use crate::answer::{AskFault, Numbered};
 use crate::answers::{store_answer, stored_answer};
@@ -205,8 +205,9 @@ impl Sequencer {
         }
     }
 
-    // How much of the log a replica has.
-    pub(crate) fn recorded_of(&self, replica: u8) -> Option<u64>
+    /// How much of the log a replica has, by the last length received of it. `None` if no such
+    /// replica exists.
+    pub fn recorded_of(&self, replica: u8) -> Option<u64>
         ensures value { result ≡ slice_get self.now.recorded replica }
         ensures within { IfSome result (λ size. size ≤ length self.now.log) }
     {
@@ -259,6 +260,17 @@ impl Sequencer {
             return AnswerNote::Unknown;
         }
         store_answer(&mut self.answers, index as usize, reply)
+    }
+
+    /// Forgets what the replicas reported: no length is recorded, and no answer is kept. The log
+    /// stays, and is for this many replicas from now on. It allocates nothing.
+    pub fn forget_reports(&mut self, nodes: usize)
+        requires { nodes ≤ REPLICAS }
+        ensures { self.new ≡ sequencer_with nodes self.old.log }
+    {
+        self.recorded = zeros(nodes);
+        self.checkpoints = zeros(nodes);
+        self.answers.clear();
     }
 
     /// The reply to a request, or `None` if none has come yet or the request has no

@@ -17,15 +17,15 @@ use Rattle.cown_board.proofs.LogLaws.{injective as some_is}
 use Rattle.schedule_player.proofs.WorldStep.{world_of, node_seen}
 use Rattle.schedule_player.proofs.Stages.{length-map, undone_in_stages, length_stages}
 use Rattle.sb_rows.specs.Balances.{Balances}
-use Rattle.sb_sequencer.specs.Sequencer.{SequencerOf}
+use Rattle.schedule_sequencer.specs.DurableSequencer.{DurableSequencerOf}
 
 -- a replica that was looked up, as the machine has it
 pub record LookedUp (now : WorldOf) (r : ℕ) (node : Node) : Type 0 where
   pub consistent : IsNodeAt (bank_of now) r node
   pub seen : slice_get now.nodes r ≡ Some (machine_node node)
 
-pub looked_up : (names : List (List ℕ)) (opening : Balances) (s : SequencerOf) (nodes : List Node) (now : WorldOf) (r : ℕ) (node : Node)
-    → world_of names opening s nodes ≡ now → IsWorld names opening s nodes → r < length now.nodes → node ≡ slice_index_or nodes r node
+pub looked_up : (names : List (List ℕ)) (opening : Balances) (s : DurableSequencerOf) (nodes : List Node) (now : WorldOf) (r : ℕ) (node : Node)
+    → world_of names opening s nodes ≡ now → IsWorld names opening s.synced nodes → r < length now.nodes → node ≡ slice_index_or nodes r node
     → LookedUp now r node
 looked_up names opening s nodes now r node view is within at =
     let size = ap (λ w. length w.nodes) view in

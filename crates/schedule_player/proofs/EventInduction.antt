@@ -5,17 +5,19 @@ use Rattle.sb_calls.specs.declared.ask.Key.{Key}
 use Rattle.sb_calls.specs.declared.call.Call.{Call}
 use Rattle.schedule_player.specs.EventLists.{PlaysEvents}
 use Rattle.schedule_player.specs.ReplicaEvents.{replica_of, node_move}
-use Rattle.schedule_player.specs.World.{WorldOf, Asks, Moves, bank_of, world_move, replica_move, move_at, from_move, give_move}
+use Rattle.schedule_player.specs.World.{WorldOf, AppendsAsk, Moves, bank_of, synced_world, crashed_world, world_move, replica_move, move_at, from_move, give_move}
 use Rattle.schedule_text.specs.declared.event.Event.{Event}
 use Rattle.schedule_text.specs.declared.event.Event.TheVariants as event
 use Rattle.schedule_text.specs.declared.note.Note.{Note}
 
 module _ (P : WorldOf → Type 0)
     (node_keeps : (world : WorldOf) (happens : Event) (r : ℕ) → P world
-    → P (move_at world r (λ node. node_move (bank_of world) world.sequencer node happens)).0)
+    → P (move_at world r (λ node. node_move (bank_of world) world.sequencer.synced node happens)).0)
     (heard_keeps : (world : WorldOf) (r place : ℕ) → P world → P (from_move world r place (slice_get world.nodes r)).0)
     (gives_keep : (world : WorldOf) (a r : ℕ) → P world → P (give_move world r (slice_get world.nodes a)).0)
-    (asks_keep : (old : WorldOf) (ask : Key × Call) (n : Note) (new : WorldOf) → Asks old ask n new → P old → P new) where
+    (appends_keep : (old : WorldOf) (ask : Key × Call) (n : Note) (new : WorldOf) → AppendsAsk old ask n new → P old → P new)
+    (sync_keeps : (world : WorldOf) → P world → P (synced_world world))
+    (crash_keeps : (world : WorldOf) (kept : ℕ) → P world → P (crashed_world world kept)) where
   replica_keeps : (world : WorldOf) (happens : Event) (r : Option ℕ) → P world → P (replica_move world happens r).0
   replica_keeps world happens (Some r) holds = node_keeps world happens r holds
   replica_keeps world happens None holds = holds
@@ -24,11 +26,15 @@ module _ (P : WorldOf → Type 0)
   moves_keep world (event.From r place) holds = heard_keeps world r place holds
   moves_keep world (event.Give a r) holds = gives_keep world a r holds
   moves_keep world (event.Audit a b) holds = holds
+  moves_keep world event.Sync holds = sync_keeps world holds
+  moves_keep world (event.Crash kept) holds = crash_keeps world kept holds
   moves_keep world other holds = replica_keeps world other (replica_of other) holds
 
   one_keeps : (old : WorldOf) (happens : Event) (n : Note) (new : WorldOf) → Moves old happens n new → P old → P new
   one_keeps old (event.Ask client request call) n new moves holds =
-      asks_keep old (record { client = client; request = request }, call) n new moves holds
+      subst P (sym moves.2) (sync_keeps moves.0 (appends_keep old (record { client = client; request = request }, call) n moves.0 moves.1 holds))
+  one_keeps old (event.Append client request call) n new moves holds =
+      appends_keep old (record { client = client; request = request }, call) n new moves holds
   one_keeps old (event.Donor r) n new moves holds = subst P (sym moves.1) holds
   one_keeps old other n new moves holds = subst (λ m. P m.0) moves (moves_keep old other holds)
 

@@ -1,5 +1,5 @@
 -- No replica of the machine is ahead of the log.
-use Rattle.std.proofs.Common.{◌≡◌, inl, inr, Bool, true, false, ℕ, zero, suc, ◌+◌, ◌-◌, ◌<◌, ◌≤◌, Option, Some, None, List, [], ◌∷◌, ◌++◌, length, drop, replicate, refl, sym, subst, ◌∙◌, arith}
+use Rattle.std.proofs.Common.{◌≡◌, inl, inr, Bool, true, false, ℕ, zero, suc, ◌+◌, ◌-◌, ◌<◌, ◌≤◌, Option, Some, None, List, [], ◌∷◌, ◌++◌, length, drop, take, max, replicate, refl, sym, subst, ◌∙◌, arith}
 use Rattle.std.specs.Prelude.{slice_get, slice_set, nat_le, nat_lt, ◌==◌}
 use Rattle.std.proofs.lemmas.Bool.{true≢false, cases_eq, leb-false, ltb-true}
 use Rattle.std.proofs.lemmas.List.{length-append, length-replicate, length-set}
@@ -21,7 +21,7 @@ use Rattle.schedule_player.specs.Readiness.{runnable_entries}
 use Rattle.schedule_player.specs.ReplicaEvents.{node_move}
 use Rattle.schedule_player.specs.ReplicaMoves.{NodeOf, opened_node, length_in, undone_in, send_reply, reply_in_node, send_move, with_held, with_accepted, frame_move, deliver_move, held_move, take_entry, take_by_hand, with_empty_hand, finish_by_stage, finish_by_hand, cut_unless_pending, undone_up_to, mark_up_to, restart_at, state_move, receive_move}
 use Rattle.schedule_player.specs.Stage.{Stage, Waits, IsOut, IsDone}
-use Rattle.schedule_player.specs.World.{WorldOf, Asks, bank_of, move_if, move_at, reply_move, report_move, from_move, give_move, opened_world}
+use Rattle.schedule_player.specs.World.{WorldOf, AppendsAsk, bank_of, synced_world, crashed_world, move_if, move_at, reply_move, report_move, from_move, give_move, opened_world}
 use Rattle.schedule_text.specs.ScheduleText.{ScheduleOf}
 use Rattle.schedule_text.specs.declared.event.Event.{Event}
 use Rattle.schedule_text.specs.declared.event.Event.TheVariants as event
@@ -35,6 +35,7 @@ use Rattle.cown_board.proofs.LogLaws.{injective as some_is}
 use Rattle.schedule_player.proofs.SentEntries.{entry_is, resent_are}
 use Rattle.schedule_player.proofs.Stages.{length-map}
 use Rattle.schedule_player.proofs.FrameSteps.{number_within}
+use Rattle.schedule_player.proofs.WorldLogs.{left_over}
 use Rattle.schedule_player.proofs.MemoryRefusals.{next_by, entry_by, mark_by, state_by, give_by}
 
 -- an entry's number is at most this
@@ -274,25 +275,25 @@ module _ (size : ℕ) where
 -- ---- a world
 
 abbrev AllWithin : WorldOf → Type 0
-AllWithin world = Every (IsWithin (length world.sequencer.log)) world.nodes
+AllWithin world = Every (IsWithin (length world.sequencer.synced.log)) world.nodes
 
 within_if : (world : WorldOf) (r : ℕ) (move : NodeOf → NodeOf × Note)
-    → ((node : NodeOf) → IsWithin (length world.sequencer.log) node → IsWithin (length world.sequencer.log) (move node).0) → AllWithin world
+    → ((node : NodeOf) → IsWithin (length world.sequencer.synced.log) node → IsWithin (length world.sequencer.synced.log) (move node).0) → AllWithin world
     → (found : Option NodeOf) → slice_get world.nodes r ≡ found → AllWithin (move_if world r move found).0
 within_if world r move goes all None here = all
 within_if world r move goes all (Some node) here =
-    every_set (IsWithin (length world.sequencer.log)) world.nodes r (move node).0 all (goes node (all r node here))
+    every_set (IsWithin (length world.sequencer.synced.log)) world.nodes r (move node).0 all (goes node (all r node here))
 
 within_at : (world : WorldOf) (r : ℕ) (move : NodeOf → NodeOf × Note)
-    → ((node : NodeOf) → IsWithin (length world.sequencer.log) node → IsWithin (length world.sequencer.log) (move node).0) → AllWithin world
+    → ((node : NodeOf) → IsWithin (length world.sequencer.synced.log) node → IsWithin (length world.sequencer.synced.log) (move node).0) → AllWithin world
     → AllWithin (move_at world r move).0
 within_at world r move goes all = within_if world r move goes all (slice_get world.nodes r) refl
 
-entry_fits : (world : WorldOf) (entry : Frame) → IsEntryOf (bank_of world) entry → Fits (length world.sequencer.log) entry
+entry_fits : (world : WorldOf) (entry : Frame) → IsEntryOf (bank_of world) entry → Fits (length world.sequencer.synced.log) entry
 entry_fits world entry is =
-    let calls = length-map (λ ask. ask.1) world.sequencer.log in
+    let calls = length-map (λ ask. ask.1) world.sequencer.synced.log in
     let within = number_within (bank_of world).calls is.number is.call is.in_log in
-    subst (Fits (length world.sequencer.log)) (sym is.frame_is) (omega (arith, calls, within))
+    subst (Fits (length world.sequencer.synced.log)) (sym is.frame_is) (omega (arith, calls, within))
 
 within_kept : (world : WorldOf) (n : ℕ) (reply : Reply) (stored : Option (Option Reply)) → AllWithin world → AllWithin (reply_move world n reply stored).0
 within_kept world n reply (Some None) all = all
@@ -302,51 +303,51 @@ within_kept world n reply None all = all
 within_told : (world : WorldOf) (r : ℕ) (heard : Option Frame) → AllWithin world → AllWithin (report_move world r heard).0
 within_told world r (Some (frame.Ack replica size)) all = all
 within_told world r (Some (frame.Have replica size)) all = all
-within_told world r (Some (frame.Answer n reply)) all = within_kept world n reply (answer_slot world.sequencer n) all
+within_told world r (Some (frame.Answer n reply)) all = within_kept world n reply (answer_slot world.sequencer.synced n) all
 within_told world r other all = all
 
 within_heard : (world : WorldOf) (r place : ℕ) (found : Option NodeOf) → AllWithin world → AllWithin (from_move world r place found).0
 within_heard world r place (Some node) all = within_told world r (nth_item node.outbound place) all
 within_heard world r place None all = all
 
-within_node : (world : WorldOf) (happens : Event) (node : NodeOf) → IsWithin (length world.sequencer.log) node
-    → IsWithin (length world.sequencer.log) (node_move (bank_of world) world.sequencer node happens).0
+within_node : (world : WorldOf) (happens : Event) (node : NodeOf) → IsWithin (length world.sequencer.synced.log) node
+    → IsWithin (length world.sequencer.synced.log) (node_move (bank_of world) world.sequencer.synced node happens).0
 within_node world (event.Send r n) node is =
-    sends (length world.sequencer.log) node (entry_of world.sequencer.log n)
-    (λ entry here. entry_fits world entry (entry_is world.names world.opening world.sequencer.log n entry here)) is
+    sends (length world.sequencer.synced.log) node (entry_of world.sequencer.synced.log n)
+    (λ entry here. entry_fits world entry (entry_is world.names world.opening world.sequencer.synced.log n entry here)) is
 within_node world (event.Resend r) node is =
-    receives (length world.sequencer.log) node (entries_to_resend world.sequencer r)
-    (λ k entry here. entry_fits world entry (resent_are world.names world.opening world.sequencer r k entry here)) is
-within_node world (event.To r place) node is = delivers (length world.sequencer.log) node place is
+    receives (length world.sequencer.synced.log) node (entries_to_resend world.sequencer.synced r)
+    (λ k entry here. entry_fits world entry (resent_are world.names world.opening world.sequencer.synced r k entry here)) is
+within_node world (event.To r place) node is = delivers (length world.sequencer.synced.log) node place is
 within_node world (event.Ack r) node is = is
-within_node world (event.Answer r n) node is = replies (length world.sequencer.log) node n (reply_in_node (bank_of world) node n) is
+within_node world (event.Answer r n) node is = replies (length world.sequencer.synced.log) node n (reply_in_node (bank_of world) node n) is
 within_node world (event.Take r worker index) node is =
-    reaches (length world.sequencer.log) (bank_of world) node worker index (nth_item node.hands worker) is
-within_node world (event.Finish r worker) node is = gives (length world.sequencer.log) (bank_of world) node worker (nth_item node.hands worker) is
-within_node world (event.Mark r end) node is = marks (length world.sequencer.log) node end node.cut refl is
-within_node world (event.Restart r) node is = begins (length world.sequencer.log) node node.stored is.kept_in is
-within_node world (event.Cut r) node is = cuts (length world.sequencer.log) node node.cut is
-within_node world (event.Next r) node is = advances (length world.sequencer.log) node (slice_get node.held 0) refl is
+    reaches (length world.sequencer.synced.log) (bank_of world) node worker index (nth_item node.hands worker) is
+within_node world (event.Finish r worker) node is = gives (length world.sequencer.synced.log) (bank_of world) node worker (nth_item node.hands worker) is
+within_node world (event.Mark r end) node is = marks (length world.sequencer.synced.log) node end node.cut refl is
+within_node world (event.Restart r) node is = begins (length world.sequencer.synced.log) node node.stored is.kept_in is
+within_node world (event.Cut r) node is = cuts (length world.sequencer.synced.log) node node.cut is
+within_node world (event.Next r) node is = advances (length world.sequencer.synced.log) node (slice_get node.held 0) refl is
 within_node world (event.Have r) node is = is
 within_node world (event.Adopt r place) node is =
-    adopts (length world.sequencer.log) node (nth_item node.states place)
-    (λ n here. every_numbered (λ m. m ≤ length world.sequencer.log) node.states place n is.states_in here) is
+    adopts (length world.sequencer.synced.log) node (nth_item node.states place)
+    (λ n here. every_numbered (λ m. m ≤ length world.sequencer.synced.log) node.states place n is.states_in here) is
 within_node world other node is = is
 
 within_replica : (world : WorldOf) (happens : Event) (r : ℕ) → AllWithin world
-    → AllWithin (move_at world r (λ node. node_move (bank_of world) world.sequencer node happens)).0
+    → AllWithin (move_at world r (λ node. node_move (bank_of world) world.sequencer.synced node happens)).0
 within_replica world happens r all =
-    within_at world r (λ node. node_move (bank_of world) world.sequencer node happens) (within_node world happens) all
+    within_at world r (λ node. node_move (bank_of world) world.sequencer.synced node happens) (within_node world happens) all
 
 within_from : (world : WorldOf) (r place : ℕ) → AllWithin world → AllWithin (from_move world r place (slice_get world.nodes r)).0
 within_from world r place all = within_heard world r place (slice_get world.nodes r) all
 
 -- a state that is given is one that is kept
-within_given_by : (world : WorldOf) (r size : ℕ) (nothing : Bool) → size ≤ length world.sequencer.log → AllWithin world
+within_given_by : (world : WorldOf) (r size : ℕ) (nothing : Bool) → size ≤ length world.sequencer.synced.log → AllWithin world
     → AllWithin (give_by world r size nothing).0
 within_given_by world r size true le all = all
 within_given_by world r size false le all =
-    within_at world r (λ node. receive_move node size) (λ node is. takes_state (length world.sequencer.log) node size le is) all
+    within_at world r (λ node. receive_move node size) (λ node is. takes_state (length world.sequencer.synced.log) node size le is) all
 
 within_given : (world : WorldOf) (a r : ℕ) → AllWithin world → AllWithin (give_move world r (slice_get world.nodes a)).0
 within_given world a r all = by (slice_get world.nodes a) refl
@@ -355,21 +356,34 @@ within_given world a r all = by (slice_get world.nodes a) refl
     by None here = all
     by (Some donor) here = within_given_by world r donor.stored (donor.stored == 0) (all a donor here).kept_in all
 
--- an ask makes the log longer, or leaves it
-within_asked : (old : WorldOf) (ask : Key × Call) (n : Note) (new : WorldOf) → Asks old ask n new → AllWithin old → AllWithin new
-within_asked old ask (note.New n) new asks all =
-    let more = length-append old.sequencer.log (ask ∷ []) in
-    subst AllWithin (sym asks.1)
-    (λ k node here. wider (length old.sequencer.log) (length (old.sequencer.log ++ ask ∷ [])) node (omega (arith, more)) (all k node here))
-within_asked old ask (note.Repeat n) new asks all = subst AllWithin (sym asks.1) all
-within_asked old ask (note.Mismatch n) new asks all = subst AllWithin (sym asks.1) all
-within_asked old ask note.LogFull new asks all = subst AllWithin (sym asks.1) all
-within_asked old ask other new asks all = absurd asks
+-- an append leaves what is synced
+within_appended : (old : WorldOf) (ask : Key × Call) (n : Note) (new : WorldOf) → AppendsAsk old ask n new → AllWithin old → AllWithin new
+within_appended old ask (note.New n) new appends all = subst AllWithin (sym appends.1) all
+within_appended old ask (note.Repeat n) new appends all = subst AllWithin (sym appends.1) all
+within_appended old ask (note.Mismatch n) new appends all = subst AllWithin (sym appends.1) all
+within_appended old ask note.LogFull new appends all = subst AllWithin (sym appends.1) all
+within_appended old ask other new appends all = absurd appends
+
+-- as much or more is synced after a sync, and after a crash
+within_more : (log more : List (Key × Call)) (nodes : List NodeOf) → Every (IsWithin (length log)) nodes → Every (IsWithin (length (log ++ more))) nodes
+within_more log more nodes all k node here =
+    let longer = length-append log more in
+    wider (length log) (length (log ++ more)) node (omega (arith, longer)) (all k node here)
+
+within_synced : (world : WorldOf) → AllWithin world → AllWithin (synced_world world)
+within_synced world all = within_more world.sequencer.synced.log world.sequencer.unsynced world.nodes all
+
+within_crashed : (world : WorldOf) (kept : ℕ) → AllWithin world → AllWithin (crashed_world world kept)
+within_crashed world kept all =
+    let s = world.sequencer in
+    subst (λ log. Every (IsWithin (length log)) world.nodes) (sym (left_over s kept))
+    (within_more s.synced.log (take (max (length s.synced.log) kept - length s.synced.log) s.unsynced) world.nodes all)
 
 -- whatever happened since an opening
 pub played_within : (schedule : ScheduleOf) (world : WorldOf) → IsWorldAfter schedule world → (r : ℕ) (node : NodeOf) → slice_get world.nodes r ≡ Some node
-    → length_in node ≤ length world.sequencer.log
+    → length_in node ≤ length world.sequencer.synced.log
 played_within schedule world played r node here =
-    let all = all_keep AllWithin within_replica within_from within_given within_asked (opened_world schedule) schedule.events played.notes world played.plays
+    let all = all_keep AllWithin within_replica within_from within_given within_appended within_synced within_crashed
+    (opened_world schedule) schedule.events played.notes world played.plays
     (every_replicate (IsWithin 0) schedule.nodes (opened_node schedule.workers) (opens 0 schedule.workers)) in
     (all r node here).count_in

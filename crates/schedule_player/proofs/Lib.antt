@@ -18,6 +18,7 @@ pub mod LengthWithinLog
 pub mod Lists
 pub mod LogParts
 pub mod LongerLogs
+pub mod LogLaws
 pub mod MemoryRefusals
 pub mod NodeMoves
 pub mod NodeOpening
@@ -28,6 +29,7 @@ pub mod PossibleNotes
 pub mod ReceivedFrames
 pub mod RecordedLengths
 pub mod ReplicationLaw
+pub mod Restarting
 pub mod Runnable
 pub mod SameAnswers
 pub mod SentEntries
@@ -37,7 +39,7 @@ pub mod Stages
 pub mod StateMoves
 pub mod StatesOfLog
 pub mod WorkSteps
-pub mod WorldAsk
+pub mod WorldLogs
 pub mod WorldOpening
 pub mod WorldOutInHands
 pub mod WorldStates

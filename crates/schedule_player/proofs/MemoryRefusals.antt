@@ -103,8 +103,11 @@ finishes_quietly bank node worker = gives bank node worker (nth_item node.hands 
 
 -- an event at a replica that may take memory
 pub wants : (world : WorldOf) (happens : Event) (r : ℕ) (node : NodeOf) → replica_of happens ≡ Some r → slice_get world.nodes r ≡ Some node
-    → may_take_memory (node_move (bank_of world) world.sequencer node happens).1 ≡ true → MayWantMemory world happens
+    → may_take_memory (node_move (bank_of world) world.sequencer.synced node happens).1 ≡ true → MayWantMemory world happens
 wants world (event.Ask client request call) r node at here is = absurd (none_some at)
+wants world (event.Append client request call) r node at here is = absurd (none_some at)
+wants world event.Sync r node at here is = absurd (none_some at)
+wants world (event.Crash kept) r node at here is = absurd (none_some at)
 wants world (event.From q place) r node at here is = absurd (none_some at)
 wants world (event.Donor q) r node at here is = absurd (none_some at)
 wants world (event.Give a q) r node at here is = absurd (none_some at)
@@ -115,4 +118,4 @@ wants world (event.Finish q worker) r node at here is =
     absurd (true≢false (sym is ∙ (finishes_quietly (bank_of world) node worker).1))
 wants world other r node at here is =
     ap (λ q. may_take_memory (replica_move world other q).1) at
-    ∙ ap (λ found. may_take_memory (move_if world r (λ n. node_move (bank_of world) world.sequencer n other) found).1) here ∙ is
+    ∙ ap (λ found. may_take_memory (move_if world r (λ n. node_move (bank_of world) world.sequencer.synced n other) found).1) here ∙ is

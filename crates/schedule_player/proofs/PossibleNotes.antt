@@ -16,7 +16,7 @@ use Rattle.schedule_player.specs.PossibleNotes.{may_occur, audit_may_occur}
 use Rattle.schedule_player.specs.OneBased.{nth_item}
 use Rattle.schedule_player.specs.ReplicaEvents.{replica_of, node_move}
 use Rattle.schedule_player.specs.ReplicaMoves.{NodeOf, length_in, undone_in, send_reply, reply_in_node, send_move, frame_move, held_move, cut_unless_pending, undone_up_to, mark_up_to, state_move, receive_move}
-use Rattle.schedule_player.specs.World.{WorldOf, Asks, Moves, bank_of, world_move, replica_move, move_if, move_at, reply_move, report_move, from_move, give_move, IsDonorNote, books_after, audit_if}
+use Rattle.schedule_player.specs.World.{WorldOf, AppendsAsk, Moves, bank_of, world_move, replica_move, move_if, move_at, reply_move, report_move, from_move, give_move, IsDonorNote, books_after, audit_if}
 use Rattle.schedule_text.specs.declared.event.Event.{Event}
 use Rattle.schedule_text.specs.declared.event.Event.TheVariants as event
 use Rattle.schedule_text.specs.declared.note.AuditNote.TheVariants as audit
@@ -95,7 +95,7 @@ kept_so world n reply None = refl
 told_so : (world : WorldOf) (r : ℕ) (entry : Option Frame) → may_occur (report_move world r entry).1 ≡ true
 told_so world r (Some (frame.Ack replica size)) = refl
 told_so world r (Some (frame.Have replica size)) = refl
-told_so world r (Some (frame.Answer n reply)) = kept_so world n reply (answer_slot world.sequencer n)
+told_so world r (Some (frame.Answer n reply)) = kept_so world n reply (answer_slot world.sequencer.synced n)
 told_so world r other = refl
 
 heard_so : (world : WorldOf) (r place : ℕ) (found : Option NodeOf) → may_occur (from_move world r place found).1 ≡ true
@@ -150,23 +150,28 @@ node_so bank s node other = refl
 
 replica_so : (world : WorldOf) (happens : Event) (r : Option ℕ) → may_occur (replica_move world happens r).1 ≡ true
 replica_so world happens (Some r) =
-    comes_at world r (λ node. node_move (bank_of world) world.sequencer node happens) (λ node. node_so (bank_of world) world.sequencer node happens)
+    comes_at world r (λ node. node_move (bank_of world) world.sequencer.synced node happens)
+    (λ node. node_so (bank_of world) world.sequencer.synced node happens)
 replica_so world happens None = refl
 
 moved_so : (world : WorldOf) (happens : Event) → may_occur (world_move world happens).1 ≡ true
 moved_so world (event.From r place) = heard_so world r place (slice_get world.nodes r)
 moved_so world (event.Give a r) = gives_so world r (slice_get world.nodes a)
 moved_so world (event.Audit a b) = audits_so (bank_of world) a b (slice_get world.nodes a) (slice_get world.nodes b)
+moved_so world event.Sync = refl
+moved_so world (event.Crash kept) = refl
 moved_so world other = replica_so world other (replica_of other)
 
-asks_so : (old : WorldOf) (ask : Key × Call) (n : Note) (new : WorldOf) → Asks old ask n new → may_occur n ≡ true
-asks_so old ask (note.New n) new asks = refl
-asks_so old ask (note.Repeat n) new asks = refl
-asks_so old ask (note.Mismatch n) new asks = refl
-asks_so old ask note.LogFull new asks = refl
-asks_so old ask other new asks = absurd asks
+appends_so : (old : WorldOf) (ask : Key × Call) (n : Note) (new : WorldOf) → AppendsAsk old ask n new → may_occur n ≡ true
+appends_so old ask (note.New n) new appends = refl
+appends_so old ask (note.Repeat n) new appends = refl
+appends_so old ask (note.Mismatch n) new appends = refl
+appends_so old ask note.LogFull new appends = refl
+appends_so old ask other new appends = absurd appends
 
 pub comes_of : (old : WorldOf) (happens : Event) (n : Note) (new : WorldOf) → Moves old happens n new → may_occur n ≡ true
-comes_of old (event.Ask client request call) n new moves = asks_so old (record { client = client; request = request }, call) n new moves
-comes_of old (event.Donor r) n new moves = donor_so old.sequencer r n moves.0
+comes_of old (event.Ask client request call) n new moves =
+    appends_so old (record { client = client; request = request }, call) n moves.0 moves.1
+comes_of old (event.Append client request call) n new moves = appends_so old (record { client = client; request = request }, call) n new moves
+comes_of old (event.Donor r) n new moves = donor_so old.sequencer.synced r n moves.0
 comes_of old other n new moves = ap (λ m. may_occur m.1) (sym moves) ∙ moved_so old other

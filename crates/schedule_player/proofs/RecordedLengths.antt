@@ -24,7 +24,7 @@ use Rattle.schedule_player.specs.ReplicaEvents.{node_move}
 use Rattle.schedule_player.specs.ReplicaMoves.{NodeOf, length_in, undone_in, send_reply, reply_in_node, send_move, resend_move, frame_move, deliver_move, held_move, next_move, take_entry, take_by_hand, take_move, with_empty_hand, finish_by_stage, finish_by_hand, finish_move, cut_unless_pending, cut_move, undone_up_to, mark_up_to, mark_move, restart_move, state_move, adopt_move, receive_move}
 use Rattle.schedule_player.specs.Stage.{Stage, Waits, IsOut, IsDone}
 use Rattle.schedule_player.specs.LogAgreement.{WasSent, WereSent, RecordsWereSent}
-use Rattle.schedule_player.specs.World.{WorldOf, Asks, bank_of, move_if, move_at, reply_move, report_move, from_move, give_move, opened_world}
+use Rattle.schedule_player.specs.World.{WorldOf, AppendsAsk, bank_of, crashed_world, move_if, move_at, reply_move, report_move, from_move, give_move, opened_world}
 use Rattle.schedule_text.specs.ScheduleText.{ScheduleOf}
 use Rattle.schedule_text.specs.declared.event.Event.{Event}
 use Rattle.schedule_text.specs.declared.event.Event.TheVariants as event
@@ -145,8 +145,8 @@ records_if : (world : WorldOf) (r : ℕ) (move : NodeOf → NodeOf × Note) → 
     → (found : Option NodeOf) → slice_get world.nodes r ≡ found → RecordsWereSent (move_if world r move found).0
 records_if world r move more were None here = were
 records_if world r move more were (Some node) here = (
-  were_longer frame.Ack world.nodes world.sequencer.recorded r node (move node).0 (more node) were.0 here,
-  were_longer frame.Have world.nodes world.sequencer.checkpoints r node (move node).0 (more node) were.1 here,
+  were_longer frame.Ack world.nodes world.sequencer.synced.recorded r node (move node).0 (more node) were.0 here,
+  were_longer frame.Have world.nodes world.sequencer.synced.checkpoints r node (move node).0 (more node) were.1 here,
 )
 
 records_at : (world : WorldOf) (r : ℕ) (move : NodeOf → NodeOf × Note) → ((node : NodeOf) → Tells node (move node).0) → RecordsWereSent world
@@ -180,10 +180,10 @@ records_kept world n reply None were = were
 records_told : (world : WorldOf) (r place : ℕ) (node : NodeOf) (heard : Option Frame) → RecordsWereSent world → slice_get world.nodes r ≡ Some node
     → nth_item node.outbound place ≡ heard → RecordsWereSent (report_move world r heard).0
 records_told world r place node (Some (frame.Ack replica size)) were here is =
-    (were_set frame.Ack world.nodes world.sequencer.recorded r place node replica size were.0 here is, were.1)
+    (were_set frame.Ack world.nodes world.sequencer.synced.recorded r place node replica size were.0 here is, were.1)
 records_told world r place node (Some (frame.Have replica size)) were here is =
-    (were.0, were_set frame.Have world.nodes world.sequencer.checkpoints r place node replica size were.1 here is)
-records_told world r place node (Some (frame.Answer n reply)) were here is = records_kept world n reply (answer_slot world.sequencer n) were
+    (were.0, were_set frame.Have world.nodes world.sequencer.synced.checkpoints r place node replica size were.1 here is)
+records_told world r place node (Some (frame.Answer n reply)) were here is = records_kept world n reply (answer_slot world.sequencer.synced n) were
 records_told world r place node other were here is = were
 
 records_heard : (world : WorldOf) (r place : ℕ) (found : Option NodeOf) → RecordsWereSent world → slice_get world.nodes r ≡ found
@@ -209,10 +209,10 @@ tells_node bank s node (event.Adopt r place) = same node (adopt_move node place)
 tells_node bank s node other = same node node refl
 
 records_node : (world : WorldOf) (happens : Event) (r : ℕ) → RecordsWereSent world
-    → RecordsWereSent (move_at world r (λ node. node_move (bank_of world) world.sequencer node happens)).0
+    → RecordsWereSent (move_at world r (λ node. node_move (bank_of world) world.sequencer.synced node happens)).0
 records_node world happens r were =
-    records_at world r (λ node. node_move (bank_of world) world.sequencer node happens)
-    (λ node. tells_node (bank_of world) world.sequencer node happens) were
+    records_at world r (λ node. node_move (bank_of world) world.sequencer.synced node happens)
+    (λ node. tells_node (bank_of world) world.sequencer.synced node happens) were
 
 records_from : (world : WorldOf) (r place : ℕ) → RecordsWereSent world → RecordsWereSent (from_move world r place (slice_get world.nodes r)).0
 records_from world r place were = records_heard world r place (slice_get world.nodes r) were refl
@@ -228,22 +228,29 @@ records_given world a r were = by (slice_get world.nodes a)
     by None = were
     by (Some donor) = records_given_by world r donor.stored (donor.stored == 0) were
 
--- an ask records nothing
-records_asked : (old : WorldOf) (ask : Key × Call) (n : Note) (new : WorldOf) → Asks old ask n new → RecordsWereSent old → RecordsWereSent new
-records_asked old ask (note.New n) new asks were = subst RecordsWereSent (sym asks.1) were
-records_asked old ask (note.Repeat n) new asks were = subst RecordsWereSent (sym asks.1) were
-records_asked old ask (note.Mismatch n) new asks were = subst RecordsWereSent (sym asks.1) were
-records_asked old ask note.LogFull new asks were = subst RecordsWereSent (sym asks.1) were
-records_asked old ask other new asks were = absurd asks
+-- an append and a sync record nothing, and after a crash nothing is recorded
+records_appended : (old : WorldOf) (ask : Key × Call) (n : Note) (new : WorldOf) → AppendsAsk old ask n new → RecordsWereSent old → RecordsWereSent new
+records_appended old ask (note.New n) new appends were = subst RecordsWereSent (sym appends.1) were
+records_appended old ask (note.Repeat n) new appends were = subst RecordsWereSent (sym appends.1) were
+records_appended old ask (note.Mismatch n) new appends were = subst RecordsWereSent (sym appends.1) were
+records_appended old ask note.LogFull new appends were = subst RecordsWereSent (sym appends.1) were
+records_appended old ask other new appends were = absurd appends
 
 zero_at : (n k size : ℕ) → slice_get (replicate n 0) k ≡ Some size → size ≡ 0
 zero_at zero k size here = absurd (none_some here)
 zero_at (suc n) zero size here = sym (some_is here)
 zero_at (suc n) (suc k) size here = zero_at n k size here
 
+records_crashed : (world : WorldOf) (kept : ℕ) → RecordsWereSent world → RecordsWereSent (crashed_world world kept)
+records_crashed world kept were = (
+  (λ r node size there recorded. inl (zero_at (length world.sequencer.synced.recorded) r size recorded)),
+  (λ r node size there recorded. inl (zero_at (length world.sequencer.synced.recorded) r size recorded)),
+)
+
 pub records_played : (schedule : ScheduleOf) (world : WorldOf) → IsWorldAfter schedule world → RecordsWereSent world
 records_played schedule world played =
-    all_keep RecordsWereSent records_node records_from records_given records_asked (opened_world schedule) schedule.events played.notes world played.plays (
+    all_keep RecordsWereSent records_node records_from records_given records_appended (λ world were. were) records_crashed
+    (opened_world schedule) schedule.events played.notes world played.plays (
       (λ r node size there recorded. inl (zero_at schedule.nodes r size recorded)),
       (λ r node size there recorded. inl (zero_at schedule.nodes r size recorded)),
     )

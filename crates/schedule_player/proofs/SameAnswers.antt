@@ -13,13 +13,14 @@ use Rattle.schedule_player.specs.Bank.{BankOf}
 use Rattle.schedule_player.specs.Books.{IsRowsAt}
 use Rattle.schedule_player.specs.Observers.{reply_at_replica}
 use Rattle.schedule_player.specs.World.{WorldOf, bank_of}
+use Rattle.schedule_player.proofs.LongerLogs.{IsBeginningOf}
 use Rattle.schedule_player.proofs.Observers.{held_is_logged, observed_reply}
 
 -- ---- replies
 
 -- a reply that is held is the bank's
-pub holds : (world : WorldOf) (bank : BankOf) (r n : ℕ) → bank_of world ≡ bank → HoldsReplyOf bank world r n
-holds world bank r n same = observed_reply world r n (reply_at_replica world r n) bank refl same
+pub holds : (world : WorldOf) (bank : BankOf) (r n : ℕ) → IsBeginningOf (bank_of world) bank → HoldsReplyOf bank world r n
+holds world bank r n begins = observed_reply world r n (reply_at_replica world r n) bank refl begins
 
 -- so two answers are the same
 pub same_answers : (world : WorldOf) (a b n : ℕ) (one other : Option Reply) → one ≡ reply_at_replica world a n → other ≡ reply_at_replica world b n

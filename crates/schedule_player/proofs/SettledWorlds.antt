@@ -147,7 +147,7 @@ module _ (world : WorldOf) (r : ℕ) (node : NodeOf) (here : slice_get world.nod
 
   rests : IsAbleToSettle node → IsAtRest empty_one
   rests able =
-      let all = all_finished (bank_of world) world.sequencer node able.out_in_hands in
+      let all = all_finished (bank_of world) world.sequencer.synced node able.out_in_hands in
       record {
         able = record {
           out_in_hands = all.out_in_hands;
@@ -161,7 +161,7 @@ module _ (world : WorldOf) (r : ℕ) (node : NodeOf) (here : slice_get world.nod
 
   left_most : IsAbleToSettle node → remaining_undone world r ≤ undone_at world r
   left_most able =
-      let less = (all_finished (bank_of world) world.sequencer node able.out_in_hands).work.undone in
+      let less = (all_finished (bank_of world) world.sequencer.synced node able.out_in_hands).work.undone in
       let was : undone_at world r ≡ undone_in node = ap undone_if here in
       let is = left in
       omega (arith, less, was, is)
@@ -187,7 +187,7 @@ module _ (world : WorldOf) (r : ℕ) (node : NodeOf) (here : slice_get world.nod
   left_after : (n : ℕ) → IsAtRest node → n ≤ undone_at world r → n + undone_at (after_events world (work_events r n)) r ≡ undone_at world r
   left_after n rest le =
       let was = undone_here in
-      let all = (does_so_many (bank_of world) world.sequencer node n rest (omega (arith, le, was))).undone in
+      let all = (does_so_many (bank_of world) world.sequencer.synced node n rest (omega (arith, le, was))).undone in
       let is : undone_at (after_events world (work_events r n)) r ≡ undone_in (works (bank_of world) node n) = ap undone_if (worked_at n) in
       omega (arith, was, all, is)
 
@@ -195,12 +195,12 @@ module _ (world : WorldOf) (r : ℕ) (node : NodeOf) (here : slice_get world.nod
       → after_events (after_events world (emptying_events world r)) (work_events r (remaining_undone world r)) ≡ settled_world world r
   settles_to able =
       let bank = bank_of world in
-      let all = (all_finished bank world.sequencer node able.out_in_hands).work in
+      let all = (all_finished bank world.sequencer.synced node able.out_in_hands).work in
       let stages : replicate (length empty_one.stages) IsDone ≡ replicate (length node.stages) IsDone = ap (λ n. replicate n IsDone) all.stages in
       let hands : empty_one.hands ≡ replicate (length node.hands) None =
       (rests able).empty ∙ ap (λ n. replicate n None) all.hands in
       let same : works bank empty_one (undone_in empty_one) ≡ settled_node node =
-      all_worked bank world.sequencer empty_one (rests able)
+      all_worked bank world.sequencer.synced empty_one (rests able)
       ∙ ap (λ (n : NodeOf). record n { stages = replicate (length empty_one.stages) IsDone }) all.same
       ∙ (λ j. record node { stages = stages j; hands = hands j }) in
       ap (λ w. after_events w (work_events r (remaining_undone world r))) emptied_so

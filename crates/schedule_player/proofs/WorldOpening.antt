@@ -10,7 +10,7 @@ use Rattle.sb_calls.specs.Op.{op_of}
 use Rattle.sb_calls.specs.declared.call.TheConstants.{LOG_CALLS}
 use Rattle.sb_rows.specs.Balances.{Balances}
 use Rattle.sb_rows.specs.Rows.{SameCustomers}
-use Rattle.sb_sequencer.specs.Sequencer.{SequencerOf, empty_sequencer}
+use Rattle.schedule_sequencer.specs.DurableSequencer.{DurableSequencerOf, empty_durable}
 use Rattle.sb_sequencer.specs.declared.sequencer.TheConstants.{REPLICAS}
 use Rattle.schedule_player.specs.Bank.{BankOf}
 use Rattle.schedule_player.specs.FramesOfLog.{IsEntryOf, IsSentBy}
@@ -35,15 +35,15 @@ use Rattle.schedule_player.proofs.StatesOfLog.{states_within}
 all_zeros : (n most : ℕ) → All (λ size. size ≤ most) (replicate n 0)
 all_zeros n most = All-replicate (λ size. size ≤ most) n 0 (omega arith)
 
-pub opened_so : (names : List (List ℕ)) (opening : Balances) (nodes workers : ℕ) (all : List Node) (s : SequencerOf) → SameCustomers names opening
-    → nodes ≤ REPLICAS → 1 ≤ workers → workers ≤ 16 → s ≡ empty_sequencer nodes → map machine_node all ≡ replicate nodes (opened_node workers)
+pub opened_so : (names : List (List ℕ)) (opening : Balances) (nodes workers : ℕ) (all : List Node) (s : DurableSequencerOf) → SameCustomers names opening
+    → nodes ≤ REPLICAS → 1 ≤ workers → workers ≤ 16 → s ≡ empty_durable nodes → map machine_node all ≡ replicate nodes (opened_node workers)
     → ((bank : BankOf) → bank.names ≡ names → bank.opening ≡ opening → SameCustomers bank.names bank.opening → length bank.calls ≤ LOG_CALLS
     → (r : ℕ) (node : Node) → slice_get all r ≡ Some node → IsNodeAt bank r node)
-    → IsWorld names opening s all
+    → IsWorld names opening s.synced all
 opened_so names opening nodes workers all s same few has_worker worker_limit is seen consistent =
     let size : length all ≡ nodes = sym (length-map machine_node all) ∙ ap length seen ∙ length-replicate nodes (opened_node workers) in
     let zeros : length (replicate {A = ℕ} nodes 0) ≡ nodes = length-replicate {A = ℕ} nodes 0 in
-    subst (λ x. IsWorld names opening x all) (sym is)
+    subst (λ x. IsWorld names opening x.synced all) (sym is)
     (record {
       customers = same;
       valid = record {
@@ -78,10 +78,10 @@ seen_is bank nodes r one each here = by (slice_get nodes r) refl
       some_is (sym (slice_get-map machine_node nodes r ∙ ap (option_map machine_node) there) ∙ here),
     )
 
-pub true_to_log : (names : List (List ℕ)) (opening : Balances) (s : SequencerOf) (nodes : List Node) → IsWorld names opening s nodes
+pub true_to_log : (names : List (List ℕ)) (opening : Balances) (s : DurableSequencerOf) (nodes : List Node) → IsWorld names opening s.synced nodes
     → WorldAgreesWithLog (world_of names opening s nodes)
 true_to_log names opening s nodes is =
-    let bank = bank_with names opening s.log in
+    let bank = bank_with names opening s.synced.log in
     record {
       within = λ r one here.
           let found = seen_is bank nodes r one is.each here in
@@ -89,8 +89,8 @@ true_to_log names opening s nodes is =
           let size = length_stages board found.1.board.states in
           let fits = within_log (contents_of opening) (ops_of bank) board found.1.board in
           let ops = length-map (op_of names) bank.calls in
-          let calls = length-map (λ entry. entry.1) s.log in
-          subst (λ n. length_in n ≤ length s.log) found.2 (omega (arith, size, fits, ops, calls));
+          let calls = length-map (λ entry. entry.1) s.synced.log in
+          subst (λ n. length_in n ≤ length s.synced.log) found.2 (omega (arith, size, fits, ops, calls));
       inbound = λ r one here.
           let found = seen_is bank nodes r one is.each here in
           subst (λ n. Every (IsEntryOf bank) n.inbound) found.2 found.1.inbound;
@@ -99,8 +99,8 @@ true_to_log names opening s nodes is =
           subst (λ n. Every (IsSentBy bank r) n.outbound) found.2 found.1.outbound;
       states = λ r one here.
           let found = seen_is bank nodes r one is.each here in
-          let calls = length-map (λ entry. entry.1) s.log in
-          subst (λ n. Every (λ size. size ≤ length s.log) n.states) found.2
+          let calls = length-map (λ entry. entry.1) s.synced.log in
+          subst (λ n. Every (λ size. size ≤ length s.synced.log) n.states) found.2
           (subst (λ most. Every (λ size. size ≤ most) (machine_node found.0).states) calls
           (states_within bank found.0.states found.1.states));
       stored = is.answers;

@@ -2,7 +2,7 @@
 use Rattle.std.proofs.Common.{◌≡◌, ℕ, ◌<◌, List, length, sym, ap, subst, ◌∙◌, arith}
 use Rattle.std.specs.List.{slice_index_or}
 use Rattle.sb_rows.specs.Balances.{Balances}
-use Rattle.sb_sequencer.specs.Sequencer.{SequencerOf}
+use Rattle.schedule_sequencer.specs.DurableSequencer.{DurableSequencerOf}
 use Rattle.schedule_player.specs.inner.NodeInvariant.{machine_node}
 use Rattle.schedule_player.specs.inner.SettlingSteps.{IsTrueAt, IsAbleToSettle}
 use Rattle.schedule_player.specs.World.{WorldOf}
@@ -14,8 +14,8 @@ use Rattle.schedule_player.proofs.WorldStep.{world_of, node_seen}
 use Rattle.schedule_player.proofs.Stages.{length-map}
 use Rattle.schedule_player.proofs.WorldOpening.{true_to_log}
 
-pub able_at : (names : List (List ℕ)) (opening : Balances) (s : SequencerOf) (nodes : List Node) (now : WorldOf) (r : ℕ) (node : Node)
-    → world_of names opening s nodes ≡ now → IsWorld names opening s nodes → r < length now.nodes → node ≡ slice_index_or nodes r node
+pub able_at : (names : List (List ℕ)) (opening : Balances) (s : DurableSequencerOf) (nodes : List Node) (now : WorldOf) (r : ℕ) (node : Node)
+    → world_of names opening s nodes ≡ now → IsWorld names opening s.synced nodes → r < length now.nodes → node ≡ slice_index_or nodes r node
     → IsTrueAt IsAbleToSettle now r
 able_at names opening s nodes now r node view is within at =
     let size = ap (λ w. length w.nodes) view in

@@ -9,9 +9,11 @@ use Rattle.sb_checkpoint.specs.Reading.{stated_reply_count}
 use Rattle.sb_rows.specs.Balances.{Balances}
 use Rattle.sb_sequencer.specs.Donors.{HasStateFor}
 use Rattle.sb_sequencer.specs.Sequencer.{SequencerOf}
+use Rattle.schedule_sequencer.specs.DurableSequencer.{DurableSequencerOf}
 use Rattle.sb_sequencer.specs.declared.sequencer.TheConstants.{REPLICAS}
 use Rattle.schedule_player.specs.Bank.{BankOf}
 use Rattle.schedule_player.specs.Books.{IsStateAt}
+use Rattle.schedule_player.specs.LogAgreement.{WorldAgreesWithLog}
 use Rattle.schedule_player.specs.inner.NodeInvariant.{IsNodeAt, IsStateOfLog, HasState, Steps, machine_node}
 use Rattle.schedule_player.specs.OneBased.{nth_item}
 use Rattle.schedule_player.specs.Observers.{state_at}
@@ -25,14 +27,17 @@ use Rattle.schedule_text.specs.declared.note.Note.TheVariants as note
 use Rattle.schedule_player.proofs.AuditResults.{LookedUp}
 use Rattle.schedule_player.proofs.StatesOfLog.{nth_item-map, state_is}
 use Rattle.schedule_player.proofs.Lists.{every_numbered, get_here}
+use Rattle.cown_board.proofs.LogLaws.{no_some as none_some}
 use Rattle.cown_board.proofs.LogLaws.{injective as some_is}
+use Rattle.schedule_player.proofs.LongerLogs.{IsBeginningOf, state_begun}
 use Rattle.schedule_player.proofs.WorldStep.{world_of, Stepped, steps}
 use Rattle.schedule_player.proofs.Stages.{length-map}
 use Rattle.schedule_player.proofs.MemoryRefusals.{give_by}
 
 -- a state that is sent moves its replica as the machine moves it
-pub received : (names : List (List ℕ)) (opening : Balances) (s : SequencerOf) (nodes : List Node) (now : WorldOf) (r : ℕ) (old new : Node) (bytes : List ℕ)
-    (result : Result Note StepFault) → world_of names opening s nodes ≡ now → IsWorld names opening s nodes → r < length now.nodes
+pub received : (names : List (List ℕ)) (opening : Balances) (s : DurableSequencerOf) (nodes : List Node) (now : WorldOf) (r : ℕ)
+    (old new : Node) (bytes : List ℕ) (result : Result Note StepFault)
+    → world_of names opening s nodes ≡ now → IsWorld names opening s.synced nodes → r < length now.nodes
     → old ≡ slice_index_or nodes r old → IsStateOfLog (bank_of now) bytes
     → ((bank : BankOf) (q : ℕ) → IsNodeAt bank q old → IsStateOfLog bank bytes
     → Steps bank q old new result (receive_move (machine_node old) (stated_reply_count bytes)))
@@ -43,14 +48,14 @@ received names opening s nodes now r old new bytes result view is within at stat
     let lt : r < length nodes = omega (arith, size, many, within) in
     let here = get_here nodes r old lt at in
     steps names opening s nodes r old new (λ node. receive_move node (stated_reply_count bytes)) result is here (λ out_in_hands. out_in_hands)
-    (goes (bank_with names opening s.log) r (is.each r old here) (subst (λ w. IsStateOfLog (bank_of w) bytes) (sym view) state))
+    (goes (bank_with names opening s.synced.log) r (is.each r old here) (subst (λ w. IsStateOfLog (bank_of w) bytes) (sym view) state))
 
 -- a replica that exists
 pub there : (now : WorldOf) (r : ℕ) → r < length now.nodes → (node : NodeOf) × (slice_get now.nodes r ≡ Some node)
 there now r within = (get_or now.nodes r (opened_node 0), slice_get-get_or now.nodes r (opened_node 0) within)
 
 -- the machine sees as many as there are
-pub counted : (names : List (List ℕ)) (opening : Balances) (s : SequencerOf) (nodes : List Node) (now : WorldOf) (r count : ℕ)
+pub counted : (names : List (List ℕ)) (opening : Balances) (s : DurableSequencerOf) (nodes : List Node) (now : WorldOf) (r count : ℕ)
     → world_of names opening s nodes ≡ now → count ≡ length nodes → r < count → r < length now.nodes
 counted names opening s nodes now r count view is within =
     let size = ap (λ w. length w.nodes) view in
@@ -116,11 +121,25 @@ state_here now r node found place answer e = by answer e
           (every_numbered (IsStateOfLog (bank_of now)) node.states place bytes.now found.consistent.states (sym here)),
     )
 
--- the same for the world's own bank
-pub state_by_log : (now : WorldOf) (r place : ℕ) (bank : BankOf) (answer : Option (Bor (List ℕ))) → bank_of now ≡ bank
+-- a state that was sent is at most as long as the bank's log
+sent_within : (now : WorldOf) (r place size : ℕ) → WorldAgreesWithLog now → state_at now r place ≡ Some size → size ≤ length (bank_of now).calls
+sent_within now r place size agrees here = by (slice_get now.nodes r) refl here
+  where
+    by : (found : Option NodeOf) → slice_get now.nodes r ≡ found → option_and_then (λ node. nth_item node.states place) found ≡ Some size
+        → size ≤ length (bank_of now).calls
+    by None none e = absurd (none_some e)
+    by (Some node) at e =
+        let calls = length-map (λ entry. entry.1) now.sequencer.synced.log in
+        let within = every_numbered (λ n. n ≤ length now.sequencer.synced.log) node.states place size (agrees.states r node at) e in
+        omega (arith, calls, within)
+
+-- the same for a bank whose calls go on
+pub state_by_log : (now : WorldOf) (r place : ℕ) (bank : BankOf) (answer : Option (Bor (List ℕ))) → WorldAgreesWithLog now
+    → IsBeginningOf (bank_of now) bank
     → MatchOption answer (state_at now r place ≡ None)
     (λ bytes. (size : ℕ) × (state_at now r place ≡ Some size) × IsStateAt (bank_of now) size bytes.now)
     → IfSome answer (λ bytes. (size : ℕ) → state_at now r place ≡ Some size → IsStateAt bank size bytes.now)
-state_by_log now r place bank None same value = tt
-state_by_log now r place bank (Some bytes) same value = λ size here.
-    subst (λ n. IsStateAt bank n bytes.now) (some_is (sym value.1 ∙ here)) (subst (λ b. IsStateAt b value.0 bytes.now) same value.2)
+state_by_log now r place bank None agrees begins value = tt
+state_by_log now r place bank (Some bytes) agrees begins value = λ size here.
+    subst (λ n. IsStateAt bank n bytes.now) (some_is (sym value.1 ∙ here))
+    (state_begun (bank_of now) bank value.0 bytes.now begins (sent_within now r place value.0 agrees value.1) value.2)

@@ -6,7 +6,7 @@ use Rattle.std.proofs.lemmas.List.{length-set}
 use Rattle.std.proofs.lemmas.Option.{slice_get-map, slice_get_within}
 use Rattle.cown_board.proofs.StateChanges.{slice_get-set_same, slice_get-set_other}
 use Rattle.sb_rows.specs.Balances.{Balances}
-use Rattle.sb_sequencer.specs.Sequencer.{SequencerOf}
+use Rattle.schedule_sequencer.specs.DurableSequencer.{DurableSequencerOf}
 use Rattle.schedule_player.specs.inner.NodeInvariant.{machine_node, IsNodeAt, MovesTo, Steps}
 use Rattle.schedule_player.specs.ReplicaEvents.{replica_of, node_move}
 use Rattle.schedule_player.specs.ReplicaMoves.{NodeOf}
@@ -22,10 +22,10 @@ use Rattle.cown_board.proofs.LogLaws.{injective as some_is}
 use Rattle.schedule_player.proofs.Stages.{set-map}
 use Rattle.schedule_player.proofs.MemoryRefusals.{wants}
 
-abbrev pub world_of : List (List ℕ) → Balances → SequencerOf → List Node → WorldOf
+abbrev pub world_of : List (List ℕ) → Balances → DurableSequencerOf → List Node → WorldOf
 world_of names opening s nodes = record { names = names; opening = opening; sequencer = s; nodes = map machine_node nodes }
 
-module _ (names : List (List ℕ)) (opening : Balances) (s : SequencerOf) (nodes : List Node) where
+module _ (names : List (List ℕ)) (opening : Balances) (s : DurableSequencerOf) (nodes : List Node) where
   -- it is where it was put
   new_one : (r : ℕ) (new : Node) (q : ℕ) (node : Node) → r ≡ q → slice_get (slice_set nodes r new) q ≡ Some node → new ≡ node
   new_one r new q node same here =
@@ -35,8 +35,8 @@ module _ (names : List (List ℕ)) (opening : Balances) (s : SequencerOf) (nodes
       some_is (sym (slice_get-set_same nodes r new within) ∙ ap (slice_get (slice_set nodes r new)) same ∙ here)
 
   -- every other replica is as before
-  pub world_with : (r : ℕ) (new : Node) → IsWorld names opening s nodes → IsNodeAt (bank_with names opening s.log) r new
-      → OutIsInHands (machine_node new) → IsWorld names opening s (slice_set nodes r new)
+  pub world_with : (r : ℕ) (new : Node) → IsWorld names opening s.synced nodes → IsNodeAt (bank_with names opening s.synced.log) r new
+      → OutIsInHands (machine_node new) → IsWorld names opening s.synced (slice_set nodes r new)
   world_with r new is consistent out_in_hands = record {
     customers = is.customers;
     valid = is.valid;
@@ -44,8 +44,8 @@ module _ (names : List (List ℕ)) (opening : Balances) (s : SequencerOf) (nodes
     few = let l = length-set nodes r new in let f = is.few in omega (arith, l, f);
     each = λ q node here. elim (cases_eq r q) [
       | inl same ↦
-          subst (λ p. IsNodeAt (bank_with names opening s.log) p node) same
-          (subst (IsNodeAt (bank_with names opening s.log) r) (new_one r new q node same here) consistent)
+          subst (λ p. IsNodeAt (bank_with names opening s.synced.log) p node) same
+          (subst (IsNodeAt (bank_with names opening s.synced.log) r) (new_one r new q node same here) consistent)
       | inr differs ↦ is.each q node (sym (slice_get-set_other nodes r q new (λ e. differs (sym e))) ∙ here)
     ];
     out_in_hands = λ q node here. elim (cases_eq r q) [
@@ -56,7 +56,7 @@ module _ (names : List (List ℕ)) (opening : Balances) (s : SequencerOf) (nodes
   }
 
   pub moves_node : (r : ℕ) (old new : Node) (n : Note) (move : NodeOf → NodeOf × Note) → slice_get nodes r ≡ Some old
-      → MovesTo (bank_with names opening s.log) r new n (move (machine_node old))
+      → MovesTo (bank_with names opening s.synced.log) r new n (move (machine_node old))
       → move_at (world_of names opening s nodes) r move ≡ (world_of names opening s (slice_set nodes r new), n)
   moves_node r old new n move here arrives =
       ap (move_if (world_of names opening s nodes) r move) (slice_get-map machine_node nodes r ∙ ap (option_map machine_node) here)
@@ -71,13 +71,13 @@ module _ (names : List (List ℕ)) (opening : Balances) (s : SequencerOf) (nodes
 
   -- it moves the world as the machine moves, or nothing changes
   pub record Stepped (r : ℕ) (new : Node) (move : NodeOf → NodeOf × Note) (result : Result Note StepFault) : Type 0 where
-    pub is : IsWorld names opening s (slice_set nodes r new)
+    pub is : IsWorld names opening s.synced (slice_set nodes r new)
     pub moves : IfOk result (λ n. move_at (world_of names opening s nodes) r move ≡ (world_of names opening s (slice_set nodes r new), n))
     pub err : OnErr result (world_of names opening s (slice_set nodes r new) ≡ world_of names opening s nodes)
 
-  pub steps : (r : ℕ) (old new : Node) (move : NodeOf → NodeOf × Note) (result : Result Note StepFault) → IsWorld names opening s nodes
+  pub steps : (r : ℕ) (old new : Node) (move : NodeOf → NodeOf × Note) (result : Result Note StepFault) → IsWorld names opening s.synced nodes
       → slice_get nodes r ≡ Some old → (OutIsInHands (machine_node old) → OutIsInHands (move (machine_node old)).0)
-      → Steps (bank_with names opening s.log) r old new result (move (machine_node old))
+      → Steps (bank_with names opening s.synced.log) r old new result (move (machine_node old))
       → Stepped r new move result
   steps r old new move (Ok n) is here keeps arrives = record {
     is = world_with r new is arrives.consistent (subst (λ m. OutIsInHands m.0) arrives.move_is (keeps (is.out_in_hands r old here)));
@@ -96,7 +96,7 @@ module _ (names : List (List ℕ)) (opening : Balances) (s : SequencerOf) (nodes
   -- it fails only if its note may take memory
   pub steps_wanted : (r : ℕ) (old new : Node) (happens : Event) (result : Result Note StepFault) → slice_get nodes r ≡ Some old
       → replica_of happens ≡ Some r
-      → Steps (bank_with names opening s.log) r old new result (node_move (bank_with names opening s.log) s (machine_node old) happens)
+      → Steps (bank_with names opening s.synced.log) r old new result (node_move (bank_with names opening s.synced.log) s.synced (machine_node old) happens)
       → OnErr result (MayWantMemory (world_of names opening s nodes) happens)
   steps_wanted r old new happens (Ok n) here at arrives = tt
   steps_wanted r old new happens (Err fault) here at failed =

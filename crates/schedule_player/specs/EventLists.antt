@@ -1,10 +1,9 @@
 -- Events, one after another.
-use Rattle.std.specs.Prelude.{◌≡◌, ℕ, Option, Some, None, List, [], ◌∷◌, ◌++◌}
-use Rattle.std.specs.List.{filter_map}
+use Rattle.std.specs.Prelude.{◌≡◌, ℕ, max, List, [], ◌∷◌, ◌++◌, fold, length, take}
 use Rattle.sb_rows.specs.Balances.{Balances}
 use Rattle.sb_calls.specs.declared.ask.Key.{Key}
 use Rattle.sb_calls.specs.declared.call.Call.{Call}
-use Rattle.sb_sequencer.specs.Numbering.{first_asks}
+use Rattle.sb_sequencer.specs.Log.{log_with}
 use Rattle.schedule_player.specs.Bank.{BankOf}
 use Rattle.schedule_player.specs.World.{WorldOf, Moves, bank_with, opened_world}
 use Rattle.schedule_text.specs.ScheduleText.{ScheduleOf}
@@ -20,16 +19,37 @@ PlaysEvents old (event ∷ events) [] new = ⊥
 PlaysEvents old (event ∷ events) (note ∷ notes) new =
     (next : WorldOf) × Moves old event note next × PlaysEvents next events notes new
 
--- the request in an event, if it is an ask
-abbrev pub ask_in : Event → Option (Key × Call)
-ask_in (event.Ask client request call) = Some (record { client = client; request = request }, call)
-ask_in other = None
+-- ---- the log that events make
 
--- the log that events make: the first ask of each key, in order
+-- a log, and how many of its calls are synced
+pub record SyncedLog : Type 0 where
+  pub log : List (Key × Call)
+  pub synced : ℕ
+
+-- all of a log is synced
+abbrev pub all_synced : List (Key × Call) → SyncedLog
+all_synced log = record { log = log; synced = length log }
+
+-- what an event does to the log: an append adds a new ask, a sync makes all of it stay, an ask does
+-- both, and a crash takes away what isn't synced, but for the calls up to a number
+abbrev pub log_after_event : SyncedLog → Event → SyncedLog
+log_after_event l (event.Append client request call) =
+    record l { log = log_with l.log (record { client = client; request = request }, call) }
+log_after_event l event.Sync = all_synced l.log
+log_after_event l (event.Ask client request call) =
+    all_synced (log_with l.log (record { client = client; request = request }, call))
+log_after_event l (event.Crash kept) = all_synced (take (max l.synced kept) l.log)
+log_after_event l other = l
+
+-- the log after these events, from an empty one
+abbrev pub log_after_events : List Event → SyncedLog
+log_after_events events = fold log_after_event (all_synced []) events
+
+-- the log that the sequencer has at the end
 abbrev pub log_of_events : List Event → List (Key × Call)
-log_of_events events = first_asks (filter_map ask_in events)
+log_of_events events = (log_after_events events).log
 
--- the bank with the calls that a schedule's events ask for
+-- the bank with the calls of the log at the end of a schedule
 abbrev pub bank_after : ScheduleOf → BankOf
 bank_after schedule = bank_with schedule.names schedule.balances (log_of_events schedule.events)
 

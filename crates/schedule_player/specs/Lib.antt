@@ -5,6 +5,7 @@ pub mod EventLists
 pub mod FramesOfLog
 pub mod Headline
 pub mod LogAgreement
+pub mod LogLaws
 pub mod Observers
 pub mod OneBased
 pub mod PossibleNotes

@@ -11,20 +11,20 @@ use Rattle.schedule_player.specs.ReplicaMoves.{NodeOf, length_in}
 use Rattle.schedule_player.specs.World.{WorldOf, bank_of}
 use Rattle.schedule_text.specs.ScheduleText.{ScheduleOf}
 
--- each replica has at most as many entries as the log; each frame to it is an entry of the log;
--- each frame from it has the length of its log or of its checkpoint, at most the log's, under its
--- own number, or the log's reply to a number; each state that was sent to it is at most as long as
--- the log; each answer that the sequencer keeps is the log's reply
+-- compared with the part of the log that is synced: each replica has at most as many entries; each
+-- frame to it is an entry; each frame from it has the length of its log or of its checkpoint, which
+-- isn't greater, under its own number, or the log's reply to a number; each state that was sent to
+-- it isn't longer; each answer that the sequencer keeps is the log's reply
 pub record WorldAgreesWithLog (world : WorldOf) : Type 0 where
   pub within : (r : ℕ) (node : NodeOf) → slice_get world.nodes r ≡ Some node
-      → length_in node ≤ length world.sequencer.log
+      → length_in node ≤ length world.sequencer.synced.log
   pub inbound : (r : ℕ) (node : NodeOf) → slice_get world.nodes r ≡ Some node
       → Every (IsEntryOf (bank_of world)) node.inbound
   pub outbound : (r : ℕ) (node : NodeOf) → slice_get world.nodes r ≡ Some node
       → Every (IsSentBy (bank_of world) r) node.outbound
   pub states : (r : ℕ) (node : NodeOf) → slice_get world.nodes r ≡ Some node
-      → Every (λ size. size ≤ length world.sequencer.log) node.states
-  pub stored : (k : ℕ) (reply : Reply) → slice_get world.sequencer.answers k ≡ Some (Some reply)
+      → Every (λ size. size ≤ length world.sequencer.synced.log) node.states
+  pub stored : (k : ℕ) (reply : Reply) → slice_get world.sequencer.synced.answers k ≡ Some (Some reply)
       → log_reply (bank_of world) (suc k) ≡ Some reply
 
 -- a frame of this kind, with this length, is among those that the replica sent
@@ -38,8 +38,8 @@ WereSent kind nodes sizes = (r : ℕ) (node : NodeOf) (size : ℕ) → slice_get
 
 -- recorded lengths of logs were sent in acknowledgements, and those of checkpoints in `Have` frames
 abbrev pub RecordsWereSent : WorldOf → Type 0
-RecordsWereSent world = WereSent frame.Ack world.nodes world.sequencer.recorded
-    × WereSent frame.Have world.nodes world.sequencer.checkpoints
+RecordsWereSent world = WereSent frame.Ack world.nodes world.sequencer.synced.recorded
+    × WereSent frame.Have world.nodes world.sequencer.synced.checkpoints
 
 -- after every schedule each recorded length is 0 or was sent by its replica
 abbrev pub RecordedLengths : Type 0

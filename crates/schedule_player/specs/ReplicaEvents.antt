@@ -9,8 +9,7 @@ use Rattle.schedule_text.specs.declared.event.Event.TheVariants as event
 use Rattle.schedule_text.specs.declared.note.Note.{Note}
 use Rattle.schedule_text.specs.declared.note.Note.TheVariants as note
 
--- an ask, a frame to the sequencer, a question about donors, a give and an audit happen at no
--- replica
+-- what happens at the sequencer, a give and an audit happen at no replica
 abbrev pub replica_of : Event → Option ℕ
 replica_of (event.Send r number) = Some r
 replica_of (event.Resend r) = Some r

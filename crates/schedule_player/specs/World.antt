@@ -10,9 +10,10 @@ use Rattle.sb_frames.specs.declared.frame.Frame.TheVariants as frame
 use Rattle.sb_sequencer.specs.Answer.{AnswersAsk}
 use Rattle.sb_sequencer.specs.Donors.{IsDonor}
 use Rattle.sb_sequencer.specs.Notes.{answer_slot}
-use Rattle.sb_sequencer.specs.Sequencer.{SequencerOf, empty_sequencer, state_after_ask}
+use Rattle.sb_sequencer.specs.Sequencer.{SequencerOf}
 use Rattle.sb_sequencer.specs.declared.answer.AskFault.TheVariants.{Mismatch, LogFull, OutOfMemory}
 use Rattle.sb_sequencer.specs.declared.answer.Numbered.TheVariants.{New, Repeat}
+use Rattle.schedule_sequencer.specs.DurableSequencer.{DurableSequencerOf, empty_durable, whole_log, after_append, after_sync, log_after_crash, after_crash}
 use Rattle.schedule_player.specs.Bank.{BankOf, log_rows}
 use Rattle.schedule_player.specs.OneBased.{nth_item}
 use Rattle.schedule_player.specs.ReplicaEvents.{replica_of, node_move}
@@ -25,41 +26,58 @@ use Rattle.schedule_text.specs.declared.note.AuditNote.TheVariants as audit
 use Rattle.schedule_text.specs.declared.note.Note.{Note}
 use Rattle.schedule_text.specs.declared.note.Note.TheVariants as note
 
--- the customers' names and their balances at the opening, the sequencer, and the replicas
+-- the customers' names and their balances at the opening; the sequencer, with the part of its log
+-- that is synced, and the asks that aren't; and the replicas
 pub record WorldOf : Type 0 where
   pub names : List (List ℕ)
   pub opening : Balances
-  pub sequencer : SequencerOf
+  pub sequencer : DurableSequencerOf
   pub nodes : List NodeOf
+
+-- the sequencer's log: what is synced, and then what isn't
+abbrev pub world_log : WorldOf → List (Key × Call)
+world_log world = whole_log world.sequencer
 
 -- the bank whose calls are this log's
 abbrev pub bank_with : List (List ℕ) → Balances → List (Key × Call) → BankOf
 bank_with names opening log = record { names = names; opening = opening; calls = map (λ entry. entry.1) log }
 
--- the bank whose calls are those that were numbered
+-- the bank whose calls are those that are synced
 abbrev pub bank_of : WorldOf → BankOf
-bank_of world = bank_with world.names world.opening world.sequencer.log
+bank_of world = bank_with world.names world.opening world.sequencer.synced.log
 
 -- the world of a schedule before its first event
 abbrev pub opened_world : ScheduleOf → WorldOf
 opened_world schedule = record {
   names = schedule.names;
   opening = schedule.balances;
-  sequencer = empty_sequencer schedule.nodes;
+  sequencer = empty_durable schedule.nodes;
   nodes = replicate schedule.nodes (opened_node schedule.workers);
 }
 
 -- ---- what an event does
 
--- an ask, by the sequencer's answer to it
+-- an append, by the sequencer's answer to the ask
+abbrev pub AppendsAsk : WorldOf → Key × Call → Note → WorldOf → Type 0
+AppendsAsk old ask (note.New n) new =
+    AnswersAsk (world_log old) ask (Ok (New n))
+    × (new ≡ record old { sequencer = after_append old.sequencer ask (Ok (New n)) })
+AppendsAsk old ask (note.Repeat n) new = AnswersAsk (world_log old) ask (Ok (Repeat n)) × (new ≡ old)
+AppendsAsk old ask (note.Mismatch n) new = AnswersAsk (world_log old) ask (Err (Mismatch n)) × (new ≡ old)
+AppendsAsk old ask note.LogFull new = AnswersAsk (world_log old) ask (Err LogFull) × (new ≡ old)
+AppendsAsk old ask other new = ⊥
+
+-- the whole log is synced
+abbrev pub synced_world : WorldOf → WorldOf
+synced_world world = record world { sequencer = after_sync world.sequencer }
+
+-- an ask is an append and a sync
 abbrev pub Asks : WorldOf → Key × Call → Note → WorldOf → Type 0
-Asks old ask (note.New n) new =
-    AnswersAsk old.sequencer.log ask (Ok (New n))
-    × (new ≡ record old { sequencer = state_after_ask old.sequencer ask (Ok (New n)) })
-Asks old ask (note.Repeat n) new = AnswersAsk old.sequencer.log ask (Ok (Repeat n)) × (new ≡ old)
-Asks old ask (note.Mismatch n) new = AnswersAsk old.sequencer.log ask (Err (Mismatch n)) × (new ≡ old)
-Asks old ask note.LogFull new = AnswersAsk old.sequencer.log ask (Err LogFull) × (new ≡ old)
-Asks old ask other new = ⊥
+Asks old ask note new = (appended : WorldOf) × AppendsAsk old ask note appended × (new ≡ synced_world appended)
+
+-- the sequencer starts again with what a crash left of its log
+abbrev pub crashed_world : WorldOf → ℕ → WorldOf
+crashed_world world kept = record world { sequencer = after_crash world.sequencer kept }
 
 -- a replica moves; an event at one that doesn't exist does nothing
 abbrev pub with_moved_node : WorldOf → ℕ → NodeOf × Note → WorldOf × Note
@@ -72,15 +90,17 @@ move_if world r move None = (world, note.Nothing)
 abbrev pub move_at : WorldOf → ℕ → (NodeOf → NodeOf × Note) → WorldOf × Note
 move_at world r move = move_if world r move (slice_get world.nodes r)
 
+-- the sequencer has these reports of its synced calls
+abbrev pub with_reports : WorldOf → SequencerOf → WorldOf
+with_reports world synced = record world { sequencer = record world.sequencer { synced = synced } }
+
 -- a frame from a replica arrives at the sequencer: it records the length of a log or of a
 -- checkpoint, and keeps the first answer to a number
 abbrev pub reply_move : WorldOf → ℕ → Reply → Option (Option Reply) → WorldOf × Note
 reply_move world number reply (Some None) = (
-  record world {
-    sequencer = record world.sequencer {
-      answers = slice_set world.sequencer.answers (number - 1) (Some reply);
-    };
-  },
+  with_reports world (record world.sequencer.synced {
+    answers = slice_set world.sequencer.synced.answers (number - 1) (Some reply);
+  }),
   note.Kept number,
 )
 reply_move world number reply (Some (Some first)) = (world, note.Repeat number)
@@ -88,15 +108,17 @@ reply_move world number reply None = (world, note.Nothing)
 
 abbrev pub report_move : WorldOf → ℕ → Option Frame → WorldOf × Note
 report_move world r (Some (frame.Ack replica size)) = (
-  record world { sequencer = record world.sequencer { recorded = slice_set world.sequencer.recorded r size } },
+  with_reports world
+      (record world.sequencer.synced { recorded = slice_set world.sequencer.synced.recorded r size }),
   note.Recorded size,
 )
 report_move world r (Some (frame.Have replica size)) = (
-  record world { sequencer = record world.sequencer { checkpoints = slice_set world.sequencer.checkpoints r size } },
+  with_reports world
+      (record world.sequencer.synced { checkpoints = slice_set world.sequencer.synced.checkpoints r size }),
   note.Has size,
 )
 report_move world r (Some (frame.Answer number reply)) =
-    reply_move world number reply (answer_slot world.sequencer number)
+    reply_move world number reply (answer_slot world.sequencer.synced number)
 report_move world r other = (world, note.Nothing)
 
 abbrev pub from_move : WorldOf → ℕ → ℕ → Option NodeOf → WorldOf × Note
@@ -133,12 +155,12 @@ abbrev pub give_move : WorldOf → ℕ → Option NodeOf → WorldOf × Note
 give_move world r (Some donor) = give_at world r donor.stored
 give_move world r None = (world, note.Nothing)
 
--- ---- all events but an ask and a donor
+-- ---- all events but an ask, an append and a donor
 
 -- an event at a replica moves that replica
 abbrev pub replica_move : WorldOf → Event → Option ℕ → WorldOf × Note
 replica_move world happens (Some r) =
-    move_at world r (λ node. node_move (bank_of world) world.sequencer node happens)
+    move_at world r (λ node. node_move (bank_of world) world.sequencer.synced node happens)
 replica_move world happens None = (world, note.Nothing)
 
 abbrev pub world_move : WorldOf → Event → WorldOf × Note
@@ -146,6 +168,9 @@ world_move world (event.From r position) = from_move world r position (slice_get
 world_move world (event.Give a r) = give_move world r (slice_get world.nodes a)
 world_move world (event.Audit a b) =
     (world, audit_if (bank_of world) a b (slice_get world.nodes a) (slice_get world.nodes b))
+world_move world event.Sync = (synced_world world, note.Synced (length (world_log world)))
+world_move world (event.Crash kept) =
+    (crashed_world world kept, note.Crashed (length (log_after_crash world.sequencer kept)))
 world_move world other = replica_move world other (replica_of other)
 
 -- the donor of a replica's state, as the sequencer names it
@@ -158,7 +183,9 @@ IsDonorNote s r other = ⊥
 abbrev pub Moves : WorldOf → Event → Note → WorldOf → Type 0
 Moves old (event.Ask client request call) note new =
     Asks old (record { client = client; request = request }, call) note new
-Moves old (event.Donor r) note new = IsDonorNote old.sequencer r note × (new ≡ old)
+Moves old (event.Append client request call) note new =
+    AppendsAsk old (record { client = client; request = request }, call) note new
+Moves old (event.Donor r) note new = IsDonorNote old.sequencer.synced r note × (new ≡ old)
 Moves old other note new = world_move old other ≡ (new, note)
 
 -- ---- when memory may be refused
@@ -168,9 +195,10 @@ abbrev pub adds_up : AuditNote → Bool
 adds_up (audit.Same total overdrawn) = true
 adds_up other = false
 
--- the notes on what may take memory: a frame is sent, an entry accepted, a cut made, a checkpoint
--- put or gone back to, a state given or read, or the books are added up
+-- the notes on what may take memory: a log is read back, a frame sent, an entry accepted, a cut
+-- made, a checkpoint put or gone back to, a state given or read, or the books are added up
 abbrev pub may_take_memory : Note → Bool
+may_take_memory (note.Crashed size) = true
 may_take_memory (note.Sent position) = true
 may_take_memory (note.Resent count) = nat_lt 0 count
 may_take_memory (note.Accepted number) = true
@@ -184,13 +212,15 @@ may_take_memory (note.Behind size) = true
 may_take_memory (note.Audit found) = adds_up found
 may_take_memory other = false
 
--- when memory may be refused: never to a take, a finish, or what the sequencer receives or is asked
--- of donors; to an ask only if it gets a new number; to a give if both replicas exist, since a
--- checkpoint of no entry is read too; and to any other event only if the machine's note on it is
--- one of these
+-- when memory may be refused: never to a take, a finish, a sync, or what the sequencer receives or
+-- is asked of donors; to an ask or an append only if it gets a new number; to a give if both
+-- replicas exist, since a checkpoint of no entry is read too; and to any other event only if the
+-- machine's note on it is one of these
 abbrev pub MayWantMemory : WorldOf → Event → Type 0
 MayWantMemory world (event.Ask client request call) =
-    AnswersAsk world.sequencer.log (record { client = client; request = request }, call) (Err OutOfMemory)
+    AnswersAsk (world_log world) (record { client = client; request = request }, call) (Err OutOfMemory)
+MayWantMemory world (event.Append client request call) =
+    AnswersAsk (world_log world) (record { client = client; request = request }, call) (Err OutOfMemory)
 MayWantMemory world (event.Take r worker index) = ⊥
 MayWantMemory world (event.Finish r worker) = ⊥
 MayWantMemory world (event.From r position) = ⊥

@@ -37,7 +37,7 @@ impl World {
         // A reply that either of them holds is the log's, run one by one.
         ensures log_reply { HoldsReplyOf (bank_of self.now) self.now a number
             × HoldsReplyOf (bank_of self.now) self.now b number }
-        // After whatever schedule, that log is the first asks of its events.
+        // After whatever schedule, that log is the beginning of the log at its end.
         ensures by_log { (schedule : ScheduleOf) → IsWorldAfter schedule self.now
             → HoldsReplyOf (bank_after schedule) self.now a number
             × HoldsReplyOf (bank_after schedule) self.now b number }
@@ -53,7 +53,7 @@ impl World {
         ensures agree { result ≡ true }
         // At one length, the log's rows are those of one pair of columns alone.
         ensures log_rows { HaveSameRows (bank_of self.now) self.now a b }
-        // After whatever schedule, that log is the first asks of its events.
+        // After whatever schedule, that log is the beginning of the log at its end.
         ensures by_log { (schedule : ScheduleOf) → IsWorldAfter schedule self.now
             → HaveSameRows (bank_after schedule) self.now a b }
     {

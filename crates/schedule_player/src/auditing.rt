@@ -34,13 +34,13 @@ impl World {
     // The bank's total with the number of overdrawn customers, or that the total isn't what the
     // opening and the calls make it.
     fn books(&self, columns: &Columns, replies: &[Reply]) -> AuditNote
-        requires limit { length replies.now ≤ length self.now.sequencer.log }
+        requires limit { length replies.now ≤ length self.now.sequencer.synced.log }
         requires rows { IsRowsAt (bank_of self.now) (length replies.now) columns.now }
         requires replies { replies.now ≡ take (length replies.now)
             (replies_to (opening_rows (bank_of self.now)) (bank_of self.now).calls) }
         ensures { result ≡ books_after (bank_of self.now) (length replies.now) }
     {
-        let calls = &self.sequencer.calls()[..replies.len()];
+        let calls = &self.sequencer.synced_calls()[..replies.len()];
         let found = audit(columns, bank_total(&self.opening), calls, replies);
         if found.total == found.expected {
             AuditNote::Same(found.total, found.overdrawn)

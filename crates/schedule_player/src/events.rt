@@ -7,16 +7,18 @@ ghost use Rattle.schedule_player.specs.World.{bank_with};
 
 use crate::fault::StepFault;
 use crate::node::Node;
-use sb_sequencer::{REPLICAS, Sequencer};
+use sb_sequencer::REPLICAS;
+use schedule_sequencer::DurableSequencer;
 use schedule_text::{Event, Note};
 
 impl Node {
     /// An event happens at the replica. An event that happens at no replica does nothing.
-    pub fn step(&mut self, event: Event, sequencer: &Sequencer) -> Result<Note, StepFault>
+    pub fn step(&mut self, event: Event, sequencer: &DurableSequencer) -> Result<Note, StepFault>
         ensures { (names : List (List ℕ)) (opening : Balances) (r : ℕ) → r < REPLICAS → replica_of event ≡ Some r
-            → IsNodeAt (bank_with names opening sequencer.now.log) r self.old
-            → Steps (bank_with names opening sequencer.now.log) r self.old self.new result
-            (node_move (bank_with names opening sequencer.now.log) sequencer.now (machine_node self.old) event) }
+            → IsNodeAt (bank_with names opening sequencer.now.synced.log) r self.old
+            → Steps (bank_with names opening sequencer.now.synced.log) r self.old self.new result
+            (node_move (bank_with names opening sequencer.now.synced.log) sequencer.now.synced
+            (machine_node self.old) event) }
     {
         match event {
             Event::Send { number, .. } => self.send(number, sequencer),
@@ -33,6 +35,9 @@ impl Node {
             Event::Have { .. } => self.have(),
             Event::Adopt { position, .. } => self.adopt(position),
             Event::Ask { .. }
+            | Event::Append { .. }
+            | Event::Sync
+            | Event::Crash { .. }
             | Event::From { .. }
             | Event::Donor { .. }
             | Event::Give { .. }

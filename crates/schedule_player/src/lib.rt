@@ -21,7 +21,9 @@ mod stepping;
 mod world;
 
 pub use fault::{PlayFault, ScheduleFault, StepFault};
-pub use laws::{recorded_lengths, replication};
+pub use laws::{
+    log_is_first_asks, recorded_lengths, replication, restarts_as_after_a_crash, synced_logs_stay,
+};
 pub use running::run_schedule;
 pub use schedule_text::{AuditNote, Column, Event, Events, Note};
 pub use stepping::{play, play_lines};

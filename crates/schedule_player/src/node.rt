@@ -19,7 +19,8 @@ use sb_calls::{LOG_CALLS, Op};
 use sb_checkpoint::{How, MemoryStore};
 use sb_replica::{Heard, MarkFault, Replica, RestartFault};
 use sb_rows::{Columns, Directory};
-use sb_sequencer::{REPLICAS, Sequencer};
+use sb_sequencer::REPLICAS;
+use schedule_sequencer::DurableSequencer;
 use schedule_text::Note;
 use std::alloc::{AllocError, Global};
 
@@ -166,12 +167,12 @@ impl Node {
         }
     }
 
-    /// Sends the entry with a number to the replica, if the log has it.
-    pub fn send(&mut self, number: u32, sequencer: &Sequencer) -> Result<Note, StepFault>
+    /// Sends the entry with a number to the replica, if it is synced.
+    pub fn send(&mut self, number: u32, sequencer: &DurableSequencer) -> Result<Note, StepFault>
         ensures { (names : List (List ℕ)) (opening : Balances) (r : ℕ)
-            → IsNodeAt (bank_with names opening sequencer.now.log) r self.old
-            → Steps (bank_with names opening sequencer.now.log) r self.old self.new result
-            (send_move (machine_node self.old) (entry_of sequencer.now.log number)) }
+            → IsNodeAt (bank_with names opening sequencer.now.synced.log) r self.old
+            → Steps (bank_with names opening sequencer.now.synced.log) r self.old self.new result
+            (send_move (machine_node self.old) (entry_of sequencer.now.synced.log number)) }
     {
         let Some(entry) = sequencer.entry(number as u64) else {
             return Ok(Note::Nothing);
@@ -180,13 +181,13 @@ impl Node {
         Ok(Note::Sent(position))
     }
 
-    /// Sends the replica the entries that it lacks, by what it last acknowledged: all of them or,
-    /// if memory is refused, none.
-    pub fn resend(&mut self, replica: u32, sequencer: &Sequencer) -> Result<Note, StepFault>
+    /// Sends the replica the synced entries that it lacks, by what it last acknowledged: all of them
+    /// or, if memory is refused, none.
+    pub fn resend(&mut self, replica: u32, sequencer: &DurableSequencer) -> Result<Note, StepFault>
         ensures { (names : List (List ℕ)) (opening : Balances) (r : ℕ) → replica < REPLICAS
-            → IsNodeAt (bank_with names opening sequencer.now.log) r self.old
-            → Steps (bank_with names opening sequencer.now.log) r self.old self.new result
-            (resend_move (machine_node self.old) (entries_to_resend sequencer.now replica)) }
+            → IsNodeAt (bank_with names opening sequencer.now.synced.log) r self.old
+            → Steps (bank_with names opening sequencer.now.synced.log) r self.old self.new result
+            (resend_move (machine_node self.old) (entries_to_resend sequencer.now.synced replica)) }
     {
         // There are at most sixteen.
         let Ok(id) = u8::try_from(replica) else {

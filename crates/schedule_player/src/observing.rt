@@ -8,7 +8,7 @@ ghost use Rattle.schedule_player.specs.Books.{IsRowsAt, IsStateAt};
 ghost use Rattle.schedule_player.specs.Observers.{idle_at, length_at, reply_at_replica, state_at};
 ghost use Rattle.schedule_player.specs.EventLists.{IsWorldAfter, bank_after};
 ghost use Rattle.schedule_player.specs.LogAgreement.{WorldAgreesWithLog};
-ghost use Rattle.schedule_player.specs.World.{bank_of};
+ghost use Rattle.schedule_player.specs.World.{bank_of, world_log};
 ghost use Rattle.schedule_text.specs.ScheduleText.{ScheduleOf};
 
 use crate::world::World;
@@ -22,8 +22,8 @@ impl World {
     pub fn replicas(&self) -> u32
         ensures value { result ≡ length self.now.nodes }
         ensures limit { result ≤ REPLICAS }
-        // Whatever happened, no replica is ahead of the log, and all frames, states and answers are
-        // the log's.
+        // Whatever happened, no replica is ahead of what is synced, and all frames, states and
+        // answers are the log's.
         ensures agrees_with_log { WorldAgreesWithLog self.now }
     {
         self.nodes.len() as u32
@@ -57,7 +57,7 @@ impl World {
         requires { replica < length self.now.nodes }
         // If the number is done it is the log's, and otherwise there is none.
         ensures value { result ≡ reply_at_replica self.now replica number }
-        // After whatever schedule, it is the reply of the first asks run one by one.
+        // After whatever schedule, it is the reply of the log at its end, run one by one.
         ensures by_log { (schedule : ScheduleOf) → IsWorldAfter schedule self.now
             → IfSome result (λ reply. log_reply (bank_after schedule) number ≡ Some reply) }
     {
@@ -72,7 +72,7 @@ impl World {
         // replica has.
         ensures rows { IfSome result (λ columns. (size : ℕ) → length_at self.now replica ≡ Some size
             → IsRowsAt (bank_of self.now) size columns.now) }
-        // After whatever schedule, these calls are the first asks of its events.
+        // After whatever schedule, these calls are those of the log at its end.
         ensures by_log { (schedule : ScheduleOf) → IsWorldAfter schedule self.now
             → IfSome result (λ columns. (size : ℕ) → length_at self.now replica ≡ Some size
             → IsRowsAt (bank_after schedule) size columns.now) }
@@ -88,7 +88,7 @@ impl World {
         ensures value { MatchOption result (state_at self.now replica position ≡ None) (λ bytes.
             (size : ℕ) × (state_at self.now replica position ≡ Some size)
             × IsStateAt (bank_of self.now) size bytes.now) }
-        // After whatever schedule, these calls are the first asks of its events.
+        // After whatever schedule, these calls are those of the log at its end.
         ensures by_log { (schedule : ScheduleOf) → IsWorldAfter schedule self.now
             → IfSome result (λ bytes. (size : ℕ) → state_at self.now replica position ≡ Some size
             → IsStateAt (bank_after schedule) size bytes.now) }
@@ -98,17 +98,18 @@ impl World {
 
     /// The call with this number in the log.
     pub fn call(&self, number: u64) -> Option<&Call>
-        ensures { option_copied result ≡ call_of_number self.now.sequencer.log number }
+        ensures { option_copied result ≡ call_of_number (world_log self.now) number }
     {
         self.sequencer.call(number)
     }
 
     /// The answer that the sequencer keeps for a request.
     pub fn answer_of(&self, client: u32, request: u32) -> Option<Reply>
-        ensures value { result ≡ answer_of self.now.sequencer (record { client = client; request = request }) }
+        ensures value { result
+            ≡ answer_of self.now.sequencer.synced (record { client = client; request = request }) }
         // It is the log's reply to the number of the request.
         ensures log_reply { IfSome result (λ reply. (index : ℕ)
-            → index_of_key self.now.sequencer.log (record { client = client; request = request }) ≡ Some index
+            → index_of_key (world_log self.now) (record { client = client; request = request }) ≡ Some index
             → log_reply (bank_of self.now) (index + 1) ≡ Some reply) }
     {
         self.sequencer.answer_of(client, request)

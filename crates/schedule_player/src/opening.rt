@@ -13,7 +13,8 @@ use crate::node::Node;
 use crate::world::World;
 use cown_bench::WORKERS;
 use sb_rows::{Columns, Directory};
-use sb_sequencer::{REPLICAS, Sequencer};
+use sb_sequencer::REPLICAS;
+use schedule_sequencer::DurableSequencer;
 use std::alloc::{AllocError, Global};
 
 // The replicas of a bank at its opening.
@@ -58,11 +59,12 @@ impl World {
         // No event has happened yet.
         ensures played { IfOk result (IsWorldAfter (no_events directory opening nodes workers)) }
     {
+        let sequencer = DurableSequencer::open(alloc, nodes as usize)?;
         let replicas = open_nodes(alloc, &directory, &opening, nodes, workers)?;
         Ok(World {
             directory,
             opening,
-            sequencer: Sequencer::open(alloc, nodes as usize),
+            sequencer,
             nodes: replicas,
         })
     }

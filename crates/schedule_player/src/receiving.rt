@@ -5,7 +5,8 @@ ghost use Rattle.sb_frames.specs.declared.frame.Frame.{Frame as AnyFrame};
 ghost use Rattle.schedule_player.specs.inner.ReceivesFrame.{ReceivesFrame, ack_note, answer_note, have_note};
 
 use sb_frames::{Frame, decode};
-use sb_sequencer::{AckNote, AnswerNote, HaveNote, Sequencer};
+use sb_sequencer::{AckNote, AnswerNote, HaveNote};
+use schedule_sequencer::DurableSequencer;
 use schedule_text::Note;
 
 // The sequencer's note on the length of a log.
@@ -41,8 +42,9 @@ fn answer_note(number: u64, noted: AnswerNote) -> Note
 }
 
 // The sequencer receives a frame, and notes it.
-fn receive_frame(sequencer: &mut Sequencer, frame: &Frame) -> Note
-    ensures { ReceivesFrame sequencer.old frame.now result sequencer.new }
+fn receive_frame(sequencer: &mut DurableSequencer, frame: &Frame) -> Note
+    ensures receives { ReceivesFrame sequencer.old.synced frame.now result sequencer.new.synced }
+    ensures unsynced { sequencer.new.unsynced ≡ sequencer.old.unsynced }
 {
     match frame {
         Frame::Ack { replica, length } => ack_note(*length, sequencer.on_ack(*replica, *length)),
@@ -55,8 +57,10 @@ fn receive_frame(sequencer: &mut Sequencer, frame: &Frame) -> Note
 }
 
 /// The sequencer receives the bytes of a frame, and notes it.
-pub(crate) fn receive_report(sequencer: &mut Sequencer, bytes: &[u8]) -> Note
-    ensures { (sent : AnyFrame) → Spells sent bytes.now → ReceivesFrame sequencer.old sent result sequencer.new }
+pub(crate) fn receive_report(sequencer: &mut DurableSequencer, bytes: &[u8]) -> Note
+    ensures receives { (sent : AnyFrame) → Spells sent bytes.now
+        → ReceivesFrame sequencer.old.synced sent result sequencer.new.synced }
+    ensures unsynced { sequencer.new.unsynced ≡ sequencer.old.unsynced }
 {
     match decode(bytes) {
         Ok((frame, _)) => receive_frame(sequencer, &frame),

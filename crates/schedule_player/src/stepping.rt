@@ -40,6 +40,13 @@ impl World {
                 request,
                 call,
             } => self.ask(client, request, &call),
+            Event::Append {
+                client,
+                request,
+                call,
+            } => self.append(client, request, &call),
+            Event::Sync => Ok(self.sync()),
+            Event::Crash { kept } => self.crash(kept),
             Event::From { replica, position } => Ok(self.receive_report(replica, position)),
             Event::Donor { replica } => Ok(self.donor(replica)),
             Event::Give { donor, replica } => self.give(donor, replica),
@@ -62,9 +69,10 @@ impl World {
 
     /// Plays one event, and notes it.
     ///
-    /// Fails if memory is refused. That can happen only if a request gets a new number, a frame is
-    /// sent, an entry is accepted, a cut is made, a checkpoint is put or gone back to, a state is
-    /// given or read, or an audit adds up the books. Nothing changes then.
+    /// Fails if memory is refused. That can happen only if a request gets a new number, the
+    /// sequencer starts again, a frame is sent, an entry is accepted, a cut is made, a checkpoint is
+    /// put or gone back to, a state is given or read, or an audit adds up the books. Nothing changes
+    /// then.
     pub fn step(&mut self, event: Event) -> Result<Note, StepFault>
         // The world moves as the reference machine does.
         ensures moves { IfOk result (λ note. Moves self.old event note self.new) }

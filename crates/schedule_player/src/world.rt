@@ -3,14 +3,16 @@ ghost use Rattle.std.specs.Prelude.{◌≡◌, Some, Err, slice_get, IfOk, OnErr
 ghost use Rattle.sb_sequencer.specs.Answer.{AnswersAsk};
 ghost use Rattle.sb_sequencer.specs.declared.answer.AskFault.TheVariants as fault;
 ghost use Rattle.schedule_player.specs.ReplicaEvents.{replica_of};
-ghost use Rattle.schedule_player.specs.World.{Asks, MayWantMemory, from_move, replica_move};
+ghost use Rattle.schedule_player.specs.World.{AppendsAsk, Asks, MayWantMemory, from_move, world_log, replica_move, world_move};
+ghost use Rattle.schedule_text.specs.declared.event.Event.TheVariants as event;
 
 use crate::fault::StepFault;
 use crate::node::Node;
 use crate::receiving::receive_report;
 use sb_calls::Call;
 use sb_rows::{Columns, Directory};
-use sb_sequencer::{AskFault, Numbered, Sequencer};
+use sb_sequencer::{AskFault, Numbered};
+use schedule_sequencer::DurableSequencer;
 use schedule_text::{Event, Note};
 use std::marker::Model;
 
@@ -20,7 +22,7 @@ use std::marker::Model;
 pub struct World {
     pub(crate) directory: Directory,
     pub(crate) opening: Columns,
-    pub(crate) sequencer: Sequencer,
+    pub(crate) sequencer: DurableSequencer,
     pub(crate) nodes: Vec<Node>,
 }
 
@@ -39,26 +41,62 @@ impl Model for World {
       nodes = map machine_node w.nodes.items;
     } };
 
-    ghost invariant = { λ w. IsWorld w.directory w.opening w.sequencer w.nodes.items };
+    ghost invariant = { λ w. IsWorld w.directory w.opening w.sequencer.synced w.nodes.items };
 }
 
 impl World {
-    /// A client asks the sequencer to number a call.
-    pub(crate) fn ask(&mut self, client: u32, request: u32, call: &Call) -> Result<Note, StepFault>
+    /// A client asks the sequencer to number a call, and nothing is synced.
+    pub(crate) fn append(
+        &mut self,
+        client: u32,
+        request: u32,
+        call: &Call,
+    ) -> Result<Note, StepFault>
         ensures moves { IfOk result (λ note.
-            Asks self.old (record { client = client; request = request }, call.now) note self.new) }
+            AppendsAsk self.old (record { client = client; request = request }, call.now) note self.new) }
         ensures err { OnErr result (self.new ≡ self.old) }
         ensures wanted { OnErr result
-            (AnswersAsk self.old.sequencer.log (record { client = client; request = request }, call.now)
+            (AnswersAsk (world_log self.old) (record { client = client; request = request }, call.now)
             (Err fault.OutOfMemory)) }
     {
-        match self.sequencer.ask(client, request, call) {
+        match self.sequencer.append(client, request, call) {
             Ok(Numbered::New(number)) => Ok(Note::New(number)),
             Ok(Numbered::Repeat(number)) => Ok(Note::Repeat(number)),
             Err(AskFault::Mismatch(number)) => Ok(Note::Mismatch(number)),
             Err(AskFault::LogFull) => Ok(Note::LogFull),
             Err(AskFault::OutOfMemory) => Err(StepFault::OutOfMemory),
         }
+    }
+
+    /// The sequencer syncs its log. It takes no memory, and never fails.
+    pub(crate) fn sync(&mut self) -> Note
+        ensures { world_move self.old event.Sync ≡ (self.new, result) }
+    {
+        self.sequencer.sync();
+        Note::Synced(self.sequencer.length())
+    }
+
+    /// A client asks the sequencer to number a call, and the log is synced.
+    pub(crate) fn ask(&mut self, client: u32, request: u32, call: &Call) -> Result<Note, StepFault>
+        ensures moves { IfOk result (λ note.
+            Asks self.old (record { client = client; request = request }, call.now) note self.new) }
+        ensures err { OnErr result (self.new ≡ self.old) }
+        ensures wanted { OnErr result
+            (AnswersAsk (world_log self.old) (record { client = client; request = request }, call.now)
+            (Err fault.OutOfMemory)) }
+    {
+        let note = self.append(client, request, call)?;
+        self.sync();
+        Ok(note)
+    }
+
+    /// The sequencer stops, and starts again with what is left of its log.
+    pub(crate) fn crash(&mut self, kept: u32) -> Result<Note, StepFault>
+        ensures moves { IfOk result (λ note. world_move self.old (event.Crash kept) ≡ (self.new, note)) }
+        ensures err { OnErr result (self.new ≡ self.old) }
+    {
+        self.sequencer.crash(kept as u64)?;
+        Ok(Note::Crashed(self.sequencer.length()))
     }
 
     /// A frame that a replica sent arrives at the sequencer.

@@ -4,8 +4,8 @@ use schedule_text::{Event, Events};
 use std::alloc::Global;
 use std::process::Abort;
 
-// A line of each event, and some asks with different calls among them.
-const LINES: [&str; 23] = [
+// A line of each event, and some asks and appends with different calls among them.
+const LINES: [&str; 27] = [
     "ask 7 2 deposit bob 10.00",
     "ask 4294967295 0 savings alice -0.01",
     "send 0 5",
@@ -13,6 +13,9 @@ const LINES: [&str; 23] = [
     "to 2 6",
     "ack 3",
     "ask 1 1 pay alice bob 0.50",
+    "append 8 4294967295 check bob 0.25",
+    "sync",
+    "crash 17",
     "answer 4 7",
     "from 5 8",
     "take 6 16 9",
@@ -28,6 +31,7 @@ const LINES: [&str; 23] = [
     "adopt 15 4294967295",
     "audit 3 2",
     "ask 7 3 balance carol",
+    "append 7 4 balance dave",
     "mark 8 new",
 ];
 
@@ -71,18 +75,20 @@ fn each_event_comes_back(rt: HostRuntime) {
 }
 
 #[test]
-fn each_ask_has_its_own_call(rt: HostRuntime) {
+fn each_ask_and_append_has_its_own_call(rt: HostRuntime) {
     let lines = [
         "ask 1 1 balance alice",
-        "ask 1 1 balance bob",
-        "ask 1 1 balance carol",
+        "append 1 1 balance bob",
+        "append 1 1 balance carol",
+        "ask 1 1 balance dave",
     ];
     let events = events_of(&rt, rt.alloc(), &lines);
-    let [alice, bob, carol] = lines;
+    let [alice, bob, carol, dave] = lines;
     let wanted = [
         event_of(&rt, alice),
         event_of(&rt, bob),
         event_of(&rt, carol),
+        event_of(&rt, dave),
     ];
     are_events(&rt, &events, &wanted);
 }

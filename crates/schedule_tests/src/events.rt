@@ -92,6 +92,25 @@ fn reads_a_line_of_each_event_of_states(rt: HostRuntime) {
 }
 
 #[test]
+fn reads_a_line_of_each_event_of_a_log_that_is_synced_in_part(rt: HostRuntime) {
+    let bob = Name::new(b"bob").expect(&rt, "a name");
+    let amount = Cents::new(1_000).expect(&rt, "an amount");
+    let append = Event::Append {
+        client: 7,
+        request: 2,
+        call: Call::DepositChecking(bob, amount),
+    };
+    for (line, event) in [
+        ("append 7 2 deposit bob 10.00", append),
+        ("sync", Event::Sync),
+        ("crash 0", Event::Crash { kept: 0 }),
+        ("crash 4294967295", Event::Crash { kept: 4294967295 }),
+    ] {
+        assert!(rt; read_event(line.as_bytes()) == Ok(event), "{line}");
+    }
+}
+
+#[test]
 fn reads_how_a_put_ends(rt: HostRuntime) {
     for (line, how) in [
         ("mark 0 ok", How::Ok),
@@ -127,6 +146,25 @@ fn reads_an_ask_of_client_0_and_the_greatest_numbers(rt: HostRuntime) {
     };
     let line = b"take 4294967295 4294967295 4294967295".as_slice();
     assert!(rt; read_event(line) == Ok(event));
+}
+
+// Checks that a line spells the append by this client, with this number, for alice's balance.
+fn is_append(rt: &impl Abort, line: &str, client: u32, request: u32) {
+    let alice = Name::new(b"alice").expect(rt, "a name");
+    let event = Event::Append {
+        client,
+        request,
+        call: Call::Balance(alice),
+    };
+    assert!(rt; read_event(line.as_bytes()) == Ok(event), "{line}");
+}
+
+#[test]
+fn reads_an_append_of_client_0_and_the_greatest_numbers(rt: HostRuntime) {
+    is_append(&rt, "append 0 1 balance alice", 0, 1);
+    is_append(&rt, "append 0 0 balance alice", 0, 0);
+    let line = "append 4294967295 4294967295 balance alice";
+    is_append(&rt, line, 4294967295, 4294967295);
 }
 
 // Lines at fault.
@@ -221,6 +259,46 @@ const BAD_STATE_NUMBERS: [&str; 18] = [
     "adopt 0 x",
 ];
 
+// The same for the events of a log that is synced in part.
+const UNKNOWN_LOG_EVENTS: [&str; 7] = [
+    "appends 1 1 balance alice",
+    "Append 1 1 balance alice",
+    " append 1 1 balance alice",
+    "synced",
+    "Sync",
+    "crashed 1",
+    "Crash 1",
+];
+
+const WRONG_LOG_WORDS: [&str; 11] = [
+    "append",
+    "append 1",
+    "append x",
+    "sync x",
+    "sync 0",
+    "sync ",
+    "sync  ",
+    "crash",
+    "crash 0 1",
+    "crash 0 ",
+    "crash x 1",
+];
+
+const BAD_LOG_NUMBERS: [&str; 12] = [
+    "append x 1 pay",
+    "append 1 x",
+    "append 1 ",
+    "append 01 1 balance alice",
+    "append 1 01 balance alice",
+    "append 4294967296 1 balance alice",
+    "append 1 4294967296 pay",
+    "crash x",
+    "crash ",
+    "crash 01",
+    "crash -1",
+    "crash 4294967296",
+];
+
 // Checks the first fault of each of these lines.
 fn are_at_fault(rt: &impl Abort, lines: &[&str], fault: EventFault) {
     for line in lines {
@@ -243,6 +321,13 @@ fn names_the_first_fault_of_a_line_of_states(rt: HostRuntime) {
 }
 
 #[test]
+fn names_the_first_fault_of_a_line_of_the_log(rt: HostRuntime) {
+    are_at_fault(&rt, &UNKNOWN_LOG_EVENTS, EventFault::UnknownEvent);
+    are_at_fault(&rt, &WRONG_LOG_WORDS, EventFault::WrongWords);
+    are_at_fault(&rt, &BAD_LOG_NUMBERS, EventFault::BadNumber);
+}
+
+#[test]
 fn names_the_fault_of_a_call(rt: HostRuntime) {
     let unknown = EventFault::Call(CallFault::UnknownVerb);
     are_at_fault(&rt, &["ask 1 1", "ask 1 1 ", "ask 1 1 send"], unknown);
@@ -259,6 +344,31 @@ fn names_the_fault_of_a_call(rt: HostRuntime) {
     are_at_fault(
         &rt,
         &["ask 1 1 check a 1"],
+        EventFault::Call(CallFault::BadMoney),
+    );
+}
+
+#[test]
+fn names_the_fault_of_the_call_of_an_append(rt: HostRuntime) {
+    let unknown = EventFault::Call(CallFault::UnknownVerb);
+    are_at_fault(
+        &rt,
+        &["append 1 1", "append 1 1 ", "append 1 1 sync"],
+        unknown,
+    );
+    are_at_fault(
+        &rt,
+        &["append 1 1 balance", "append 1 1 pay a b"],
+        EventFault::Call(CallFault::WrongWords),
+    );
+    are_at_fault(
+        &rt,
+        &["append 1 1 balance A"],
+        EventFault::Call(CallFault::BadName),
+    );
+    are_at_fault(
+        &rt,
+        &["append 1 1 check a 1"],
         EventFault::Call(CallFault::BadMoney),
     );
 }

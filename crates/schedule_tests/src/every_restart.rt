@@ -1,4 +1,4 @@
-//! Two workers of one replica, which restarts at every place.
+//! Two workers of one replica. The replica restarts at every place, or the sequencer does.
 use crate::worlds::{event_of, replies, stands_at, world_of};
 use sb_calls::Reply;
 use schedule_player::{AuditNote, World};
@@ -103,6 +103,13 @@ fn a_restart_at_every_place(rt: HostRuntime) {
         for mark in ["mark 0 ok", "mark 0 old", "mark 0 new"] {
             plays_with(&rt, rt.alloc(), &[(place, mark), (place, "restart 0")]);
         }
+    }
+}
+
+#[test]
+fn a_crash_of_the_sequencer_at_every_place(rt: HostRuntime) {
+    for place in 0..=EVENTS.len() {
+        plays_with(&rt, rt.alloc(), &[(place, "crash 0")]);
     }
 }
 

@@ -8,6 +8,8 @@ mod audits;
 #[cfg(test)]
 mod breaks;
 #[cfg(test)]
+mod crashes;
+#[cfg(test)]
 mod devices;
 #[cfg(test)]
 mod disorder;

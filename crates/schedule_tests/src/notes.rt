@@ -57,6 +57,26 @@ fn notes_with_a_number(rt: HostRuntime) {
 }
 
 #[test]
+fn notes_of_a_log_that_is_synced_in_part(rt: HostRuntime) {
+    expect_lines(
+        &rt,
+        rt.alloc(),
+        &[
+            (Note::Synced(0), "synced 0\n"),
+            (
+                Note::Synced(18_446_744_073_709_551_615),
+                "synced 18446744073709551615\n",
+            ),
+            (Note::Crashed(0), "crashed 0\n"),
+            (
+                Note::Crashed(18_446_744_073_709_551_615),
+                "crashed 18446744073709551615\n",
+            ),
+        ],
+    );
+}
+
+#[test]
 fn notes_of_states(rt: HostRuntime) {
     expect_lines(
         &rt,

@@ -54,3 +54,25 @@ fn marks_that_fail(rt: HostRuntime) {
           replica 1 length 0 idle\nann 200.00 30.00\nben 0.00 15.50\ntotal 245.50\n";
     expect_output(&rt, rt.alloc(), schedule, output);
 }
+
+#[test]
+fn a_sequencer_restarts(rt: HostRuntime) {
+    let schedule = b"nodes 2 workers 1\nann 200.00 30.00\nben 0.00 15.50\nbegin\n\
+          ask 1 1 deposit ben 4.50\nappend 1 2 check ann 250.00\n\
+          append 2 1 savings ann 20.00\nsend 0 2\nresend 0\nto 0 1\ntake 0 1 0\nack 0\n\
+          from 0 1\ncrash 0\nfinish 0 1\nappend 2 1 savings ann 20.00\nsync\n\
+          append 1 2 check ann 250.00\nappend 3 1 pay ben ann 10.00\ncrash 3\n\
+          ask 1 2 check ann 250.00\nresend 0\nresend 1\nto 0 2\nto 0 3\ntake 0 1 0\n\
+          to 0 4\nfinish 0 1\nto 1 3\nto 1 1\nto 1 2\nnext 1\ntake 0 1 0\nfinish 0 1\n\
+          take 1 1 1\nfinish 1 1\ntake 1 1 0\nfinish 1 1\ntake 1 1 0\nfinish 1 1\n\
+          answer 1 3\nfrom 1 1\naudit 0 1\n";
+    let output = b"new 1\nnew 2\nnew 3\nnothing\nresent 1\naccepted 1\ntook 1\nsent 1\n\
+          recorded 1\ncrashed 1\nfinished 1 done\nnew 2\nsynced 2\nnew 3\nnew 4\n\
+          crashed 3\nrepeat 3\nresent 3\nresent 3\nrepeat 1\naccepted 2\ntook 2\n\
+          accepted 3\nfinished 2 done\nheld 3\naccepted 1\naccepted 2\naccepted 3\n\
+          took 3\nfinished 3 done\ntook 2\nfinished 2 done\ntook 1\nfinished 1 done\n\
+          took 3\nfinished 3 done\nsent 1\nkept 3\nsame 20.00 1\n\
+          replica 0 length 3 idle\nann 220.00 -220.00\nben 0.00 20.00\ntotal 20.00\n\
+          replica 1 length 3 idle\nann 220.00 -220.00\nben 0.00 20.00\ntotal 20.00\n";
+    expect_output(&rt, rt.alloc(), schedule, output);
+}

@@ -4,7 +4,7 @@ ghost use Rattle.sb_calls.specs.Cowns.{contents_of};
 
 use crate::worlds::{OPENING, accepts, sends, stands_at, world_of};
 use cown_board::Board;
-use cown_workers::{Notice, OpenGate, Traced, drain, with_crew};
+use cown_workers::{Gate, Notice, Traced, drain, with_crew};
 use sb_calls::{Op, read_call, resolve};
 use sb_rows::{Directory, Opening, read_opening};
 use schedule_player::{Event, Note, World};
@@ -32,6 +32,18 @@ const CALLS: [&str; 16] = [
     "check bob 20.00",
     "balance bob",
 ];
+
+// How often a crew is traced. Each time its threads may take other turns.
+const ROUNDS: u32 = 20;
+
+// A gate that doesn't admit the owner, so the workers execute all.
+struct WorkersAlone;
+
+impl Gate for WorkersAlone {
+    fn before(&self, _number: u64) {}
+
+    fn after(&self, _number: u64) {}
+}
 
 // A board with these calls, none of them executed yet.
 #[tactic(auto, using(sb_calls::proofs::CownColumns::two_cowns_a_customer))]
@@ -63,7 +75,7 @@ where
     R: Threads + Wait + Clock + Sync + Abort,
 {
     let board = board_of_calls(rt, alloc);
-    let answer = with_crew(rt, alloc, 4, &OpenGate, move |crew| {
+    let answer = with_crew(rt, alloc, 4, &WorkersAlone, move |crew| {
         let mut board = board;
         let mut traced = Traced::new(crew);
         let ended = drain(&mut *board, &mut traced);
@@ -167,6 +179,8 @@ where
 }
 
 #[test]
-fn a_trace_of_four_workers_is_a_schedule(rt: HostRuntime) {
-    plays_a_trace(&rt, rt.alloc());
+fn each_trace_of_four_workers_is_a_schedule(rt: HostRuntime) {
+    for _ in 0..ROUNDS {
+        plays_a_trace(&rt, rt.alloc());
+    }
 }

@@ -28,6 +28,11 @@ abbrev pub with_three : (ℕ → ℕ → ℕ → Event) → Option ℕ → Optio
 with_three made (Some a) b c = with_two (made a) b c
 with_three made None b c = Err BadNumber
 
+-- the event of a name that no word comes after
+abbrev pub event_of_none : Event → List (List ℕ) → Result Event EventFault
+event_of_none made [] = Ok made
+event_of_none made (a ∷ more) = Err WrongWords
+
 -- the event that the words after its name say, if it takes one number
 abbrev pub event_of_one : (ℕ → Event) → List (List ℕ) → Result Event EventFault
 event_of_one made (a ∷ []) = with_one made (read_number a)
@@ -69,23 +74,33 @@ mark_event [] = Err WrongWords
 mark_event (r ∷ []) = Err WrongWords
 mark_event (r ∷ how ∷ c ∷ more) = Err WrongWords
 
--- ---- an ask: a client's number, which may be 0, its number for the request, and a call
+-- ---- a call that a client asks for
 
-abbrev pub ask_of_call : ℕ → ℕ → Result Call CallFault → Result Event EventFault
-ask_of_call client request (Ok call) = Ok (event.Ask client request call)
-ask_of_call client request (Err fault) = Err (faults.Call fault)
+abbrev pub event_with_call : (Call → Event) → Result Call CallFault → Result Event EventFault
+event_with_call made (Ok call) = Ok (made call)
+event_with_call made (Err fault) = Err (faults.Call fault)
 
-abbrev pub ask_with_key : Option ℕ → Option ℕ → List (List ℕ) → Result Event EventFault
-ask_with_key (Some client) (Some request) call = ask_of_call client request (call_of_words call)
-ask_with_key (Some client) None call = Err BadNumber
-ask_with_key None request call = Err BadNumber
+abbrev pub event_with_key : (ℕ → ℕ → Call → Event) → Option ℕ → Option ℕ → List (List ℕ) → Result Event EventFault
+event_with_key made (Some client) (Some request) call = event_with_call (made client request) (call_of_words call)
+event_with_key made (Some client) None call = Err BadNumber
+event_with_key made None request call = Err BadNumber
 
-abbrev pub ask_event : List (List ℕ) → Result Event EventFault
-ask_event (client ∷ request ∷ call) = ask_with_key (read_number client) (read_number request) call
-ask_event [] = Err WrongWords
-ask_event (client ∷ []) = Err WrongWords
+-- the event that the words after its name say, if it takes a client's number, which may be 0, its
+-- number for the request, and a call
+abbrev pub event_of_call : (ℕ → ℕ → Call → Event) → List (List ℕ) → Result Event EventFault
+event_of_call made (client ∷ request ∷ call) = event_with_key made (read_number client) (read_number request) call
+event_of_call made [] = Err WrongWords
+event_of_call made (client ∷ []) = Err WrongWords
 
 -- ---- a line
+
+-- an event by its first word: those of a log of which only a part is synced
+abbrev pub log_event : List ℕ → List (List ℕ) → Result Event EventFault
+log_event verb rest =
+    if bytes_eq verb (codes "append") then event_of_call event.Append rest
+    else if bytes_eq verb (codes "sync") then event_of_none event.Sync rest
+    else if bytes_eq verb (codes "crash") then event_of_one event.Crash rest
+    else Err UnknownEvent
 
 -- an event by its first word: those of checkpoints, and of states that replicas get from others
 abbrev pub state_event : List ℕ → List (List ℕ) → Result Event EventFault
@@ -96,7 +111,7 @@ state_event verb rest =
     else if bytes_eq verb (codes "donor") then event_of_one event.Donor rest
     else if bytes_eq verb (codes "give") then event_of_two event.Give rest
     else if bytes_eq verb (codes "adopt") then event_of_two event.Adopt rest
-    else Err UnknownEvent
+    else log_event verb rest
 
 -- an event by its first word: those that replicas do without the network
 abbrev pub replica_event : List ℕ → List (List ℕ) → Result Event EventFault
@@ -120,7 +135,7 @@ report_event verb rest =
 abbrev pub event_of_words : List (List ℕ) → Result Event EventFault
 event_of_words [] = Err UnknownEvent
 event_of_words (verb ∷ rest) =
-    if bytes_eq verb (codes "ask") then ask_event rest
+    if bytes_eq verb (codes "ask") then event_of_call event.Ask rest
     else if bytes_eq verb (codes "send") then event_of_two event.Send rest
     else if bytes_eq verb (codes "resend") then event_of_one event.Resend rest
     else if bytes_eq verb (codes "to") then event_of_two event.To rest

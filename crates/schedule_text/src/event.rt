@@ -8,7 +8,7 @@ use sb_checkpoint::How;
 /// nothing.
 #[derive(Clone, Copy, PartialEq, Eq)]
 pub enum Event {
-    /// A client asks the sequencer for a call.
+    /// A client asks the sequencer for a call, and the log is synced.
     Ask {
         /// The client's number.
         client: u32,
@@ -16,6 +16,23 @@ pub enum Event {
         request: u32,
         /// What is asked.
         call: Call,
+    },
+    /// A client asks the sequencer for a call, and nothing is synced.
+    Append {
+        /// The client's number.
+        client: u32,
+        /// The client's number for the request.
+        request: u32,
+        /// What is asked.
+        call: Call,
+    },
+    /// The sequencer syncs its log.
+    Sync,
+    /// The sequencer's machine stops and starts again: of the log the synced calls stay, and of
+    /// the others those up to this number.
+    Crash {
+        /// The greatest number of an unsynced call that stays.
+        kept: u32,
     },
     /// The entry with a number is sent to a replica.
     Send {

@@ -3,15 +3,15 @@ ghost use Rattle.std.specs.Prelude.{◌≡◌, ◌+◌, ◌<◌, ◌^◌, Ok, []
 ghost use Rattle.sb_rows.specs.Opening.{at_line};
 ghost use Rattle.sb_rows.specs.Text.{lines};
 ghost use Rattle.schedule_text.specs.EventText as spec;
-ghost use Rattle.schedule_text.specs.EventText.{event_of, event_of_words, ask_event, mark_event};
+ghost use Rattle.schedule_text.specs.EventText.{event_of, event_of_words, mark_event};
 ghost use Rattle.schedule_text.specs.inner.LineFaults.{BlamesLine};
 ghost use Rattle.schedule_text.specs.ScheduleText.{events_from, in_events};
 
 use crate::event::Event;
 use crate::events::Events;
 use crate::fault::{EventFault, ScheduleLineFault, TextFault};
-use crate::parsing::{parse_one, parse_three, parse_two};
-use sb_calls::{Call, read_call_words, read_number};
+use crate::parsing::{parse_call, parse_end, parse_one, parse_three, parse_two};
+use sb_calls::{Call, read_number};
 use sb_checkpoint::How;
 use sb_rows::{Words, next_line, word_is};
 use std::alloc::Global;
@@ -37,7 +37,12 @@ fn event_of(mut words: Words) -> Result<Event, EventFault>
         return Err(EventFault::UnknownEvent);
     };
     if word_is(verb, b"ask") {
-        return ask_event(words);
+        let (client, request, call) = parse_call(words)?;
+        return Ok(Event::Ask {
+            client,
+            request,
+            call,
+        });
     }
     if word_is(verb, b"send") {
         let (replica, number) = parse_two(words)?;
@@ -133,25 +138,31 @@ fn state_event(verb: &[u8], words: Words) -> Result<Event, EventFault>
         let (replica, position) = parse_two(words)?;
         return Ok(Event::Adopt { replica, position });
     }
-    Err(EventFault::UnknownEvent)
+    log_event(verb, words)
 }
 
-// The words after `ask`: the client's number, its number for the request, and the call.
-fn ask_event(mut words: Words) -> Result<Event, EventFault>
-    ensures { result ≡ ask_event words.entry }
+// The event of this first word and the words after it, of those of a log of which only a part is
+// synced.
+fn log_event(verb: &[u8], words: Words) -> Result<Event, EventFault>
+    ensures { result ≡ spec.log_event verb.now words.entry }
 {
-    let (Ok(client), Ok(request)) = (words.word(), words.word()) else {
-        return Err(EventFault::WrongWords);
-    };
-    let (Some(client), Some(request)) = (read_number(client), read_number(request)) else {
-        return Err(EventFault::BadNumber);
-    };
-    let call = read_call_words(words)?;
-    Ok(Event::Ask {
-        client,
-        request,
-        call,
-    })
+    if word_is(verb, b"append") {
+        let (client, request, call) = parse_call(words)?;
+        return Ok(Event::Append {
+            client,
+            request,
+            call,
+        });
+    }
+    if word_is(verb, b"sync") {
+        parse_end(words)?;
+        return Ok(Event::Sync);
+    }
+    if word_is(verb, b"crash") {
+        let kept = parse_one(words)?;
+        return Ok(Event::Crash { kept });
+    }
+    Err(EventFault::UnknownEvent)
 }
 
 // The words after `mark`: the replica's number, and how the put ends.

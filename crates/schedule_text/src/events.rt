@@ -1,5 +1,5 @@
 //! The events of a schedule, in order.
-ghost use Rattle.std.specs.Prelude.{◌≡◌, ◌==◌, true, false, [], ◌∷◌, ◌++◌, length, IfOk, MatchOption, OnOk, OnErr};
+ghost use Rattle.std.specs.Prelude.{◌≡◌, ◌==◌, true, false, [], ◌∷◌, ◌++◌, length, IfOk, MatchOption, None, Some, OnOk, OnErr};
 ghost use Rattle.schedule_text.specs.inner.ShortEvents as spec;
 
 use crate::event::Event;
@@ -9,12 +9,20 @@ use std::alloc::{AllocError, Global};
 use std::marker::Model;
 use std::mem::size_of;
 
-// An event without its call, if it is an ask.
+// An event without its call, if it has one.
 #[derive(Clone, Copy)]
 enum ShortEvent {
     Ask {
         client: u32,
         request: u32,
+    },
+    Append {
+        client: u32,
+        request: u32,
+    },
+    Sync,
+    Crash {
+        kept: u32,
     },
     Send {
         replica: u32,
@@ -82,8 +90,7 @@ enum ShortEvent {
 
 const _: () = prove!(size_of::<ShortEvent>() == 16);
 
-/// The events of a schedule, in order. Each takes 16 bytes, and the call of an ask stands in a list
-/// of its own.
+/// The events of a schedule, in order. Each takes 16 bytes, and calls stand in a list of their own.
 #[derive(Drop)]
 pub struct Events {
     short: Vec<ShortEvent>,
@@ -93,14 +100,14 @@ pub struct Events {
 impl Model for Events {
     ghost use Rattle.std.specs.Prelude.{◌≡◌, List, count_by, length};
     ghost use Rattle.schedule_text.specs.declared.event.Event.{Event as AnyEvent};
-    ghost use Rattle.schedule_text.specs.inner.ShortEvents.{events_with_calls, is_short_ask};
+    ghost use Rattle.schedule_text.specs.inner.ShortEvents.{events_with_calls, has_call};
 
     ghost Value = { List AnyEvent };
 
     ghost view = { λ e. events_with_calls e.short.items e.calls.items };
 
-    // Each ask has its call, and there is no other.
-    ghost invariant = { λ e. count_by is_short_ask e.short.items ≡ length e.calls.items };
+    // Each event that has a call has its own, and there is no other.
+    ghost invariant = { λ e. count_by has_call e.short.items ≡ length e.calls.items };
 }
 
 impl Events {
@@ -145,8 +152,8 @@ impl Events {
         ensures err { OnErr result (self.new ≡ self.old) }
     {
         self.short.reserve(1)?;
-        if let Event::Ask { call, .. } = &event {
-            self.calls.push(*call)?;
+        if let Some(call) = event_call(&event) {
+            self.calls.push(call)?;
         }
         self.short.push_reserved(without_call(&event));
         Ok(())
@@ -173,13 +180,13 @@ pub struct EventWalk<'a> {
 impl<'a> Model for EventWalk<'a> {
     ghost use Rattle.std.specs.Prelude.{◌≡◌, List, count_by, length};
     ghost use Rattle.schedule_text.specs.declared.event.Event.{Event as AnyEvent};
-    ghost use Rattle.schedule_text.specs.inner.ShortEvents.{events_with_calls, is_short_ask};
+    ghost use Rattle.schedule_text.specs.inner.ShortEvents.{events_with_calls, has_call};
 
     ghost Value = { List AnyEvent };
 
     ghost view = { λ w. events_with_calls w.short.now w.calls.now };
 
-    ghost invariant = { λ w. count_by is_short_ask w.short.now ≡ length w.calls.now };
+    ghost invariant = { λ w. count_by has_call w.short.now ≡ length w.calls.now };
 }
 
 impl<'a> EventWalk<'a> {
@@ -200,20 +207,36 @@ impl<'a> EventWalk<'a> {
             return None;
         };
         self.short = rest;
-        match *first {
-            ShortEvent::Ask { client, request } => {
-                let [call, calls @ ..] = self.calls else {
-                    return None;
-                };
-                self.calls = calls;
-                Some(Event::Ask {
-                    client,
-                    request,
-                    call: *call,
-                })
-            }
-            whole => whole_event(whole),
-        }
+        let Some(whole) = whole_event(*first) else {
+            let [call, calls @ ..] = self.calls else {
+                return None;
+            };
+            self.calls = calls;
+            return event_with_call(first, *call);
+        };
+        Some(whole)
+    }
+}
+
+// The event that this is with its call, or `None` if it has no call.
+#[inline(always)]
+fn event_with_call(short: &ShortEvent, call: Call) -> Option<Event>
+    ensures { MatchOption result
+        (spec.has_call short.now ≡ false)
+        (λ event. (spec.without_call event ≡ short.now) × (spec.event_call event ≡ Some call)) }
+{
+    match short {
+        ShortEvent::Ask { client, request } => Some(Event::Ask {
+            client: *client,
+            request: *request,
+            call,
+        }),
+        ShortEvent::Append { client, request } => Some(Event::Append {
+            client: *client,
+            request: *request,
+            call,
+        }),
+        _ => None,
     }
 }
 
@@ -221,11 +244,13 @@ impl<'a> EventWalk<'a> {
 #[inline(always)]
 fn whole_event(short: ShortEvent) -> Option<Event>
     ensures { MatchOption result
-        (spec.is_short_ask short ≡ true)
-        (λ event. (spec.without_call event ≡ short) × (spec.is_short_ask short ≡ false)) }
+        (spec.has_call short ≡ true)
+        (λ event. (spec.without_call event ≡ short) × (spec.event_call event ≡ None)) }
 {
     Some(match short {
-        ShortEvent::Ask { .. } => return None,
+        ShortEvent::Ask { .. } | ShortEvent::Append { .. } => return None,
+        ShortEvent::Sync => Event::Sync,
+        ShortEvent::Crash { kept } => Event::Crash { kept },
         ShortEvent::Send { replica, number } => Event::Send { replica, number },
         ShortEvent::Resend { replica } => Event::Resend { replica },
         ShortEvent::To { replica, position } => Event::To { replica, position },
@@ -254,7 +279,17 @@ fn whole_event(short: ShortEvent) -> Option<Event>
     })
 }
 
-// An event without its call, if it is an ask.
+// The call of an event, if it has one.
+fn event_call(event: &Event) -> Option<Call>
+    ensures { result ≡ spec.event_call event.now }
+{
+    match event {
+        Event::Ask { call, .. } | Event::Append { call, .. } => Some(*call),
+        _ => None,
+    }
+}
+
+// An event without its call, if it has one.
 fn without_call(event: &Event) -> ShortEvent
     ensures { result ≡ spec.without_call event.now }
 {
@@ -264,6 +299,13 @@ fn without_call(event: &Event) -> ShortEvent
             request,
             ..
         } => ShortEvent::Ask { client, request },
+        Event::Append {
+            client,
+            request,
+            ..
+        } => ShortEvent::Append { client, request },
+        Event::Sync => ShortEvent::Sync,
+        Event::Crash { kept } => ShortEvent::Crash { kept },
         Event::Send { replica, number } => ShortEvent::Send { replica, number },
         Event::Resend { replica } => ShortEvent::Resend { replica },
         Event::To { replica, position } => ShortEvent::To { replica, position },

@@ -14,14 +14,14 @@ pub enum EventFault {
     /// The first word isn't an event's.
     #[error("unknown event")]
     UnknownEvent,
-    /// The event takes another number of words; for an ask, before its call.
+    /// The event takes another number of words; for an ask or an append, before its call.
     #[error("wrong words")]
     WrongWords,
     /// A word in a number's place isn't such a number, or the word for how a put ends is none of
     /// the three.
     #[error("bad number")]
     BadNumber,
-    /// The call of an ask is at fault.
+    /// The call of an ask or of an append is at fault.
     #[error(transparent)]
     Call(CallFault),
 }

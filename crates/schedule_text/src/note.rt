@@ -13,6 +13,10 @@ pub enum Note {
     Mismatch(u64),
     /// The log takes no more calls.
     LogFull,
+    /// The sequencer's log is synced up to this length, its whole.
+    Synced(u64),
+    /// The sequencer started again with a log of this length.
+    Crashed(u64),
     /// A frame was sent, at this position of its list.
     Sent(u64),
     /// This many entries were sent.

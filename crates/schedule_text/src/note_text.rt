@@ -30,6 +30,8 @@ fn push_words(note: Note, out: &mut Vec<u8>) -> Result<(), AllocError>
         Note::Repeat(number) => (b"repeat ", number),
         Note::Mismatch(number) => (b"mismatch ", number),
         Note::LogFull => return out.extend_from_slice(b"log full"),
+        Note::Synced(size) => (b"synced ", size),
+        Note::Crashed(size) => (b"crashed ", size),
         Note::Sent(position) => (b"sent ", position),
         Note::Resent(count) => (b"resent ", count),
         Note::Accepted(number) => (b"accepted ", number),

@@ -17,6 +17,8 @@ pub enum Note {
     Repeat(u64),
     Mismatch(u64),
     LogFull,
+    Synced(u64),
+    Crashed(u64),
     Sent(u64),
     Resent(u64),
     Accepted(u64),
@@ -86,6 +88,8 @@ impl Note {
             Note::New(number)
             | Note::Repeat(number)
             | Note::Mismatch(number)
+            | Note::Synced(number)
+            | Note::Crashed(number)
             | Note::Sent(number)
             | Note::Resent(number)
             | Note::Accepted(number)
@@ -122,6 +126,8 @@ impl Note {
             Note::Repeat(_) => b"repeat ",
             Note::Mismatch(_) => b"mismatch ",
             Note::LogFull => b"log full",
+            Note::Synced(_) => b"synced ",
+            Note::Crashed(_) => b"crashed ",
             Note::Sent(_) => b"sent ",
             Note::Resent(_) => b"resent ",
             Note::Accepted(_) => b"accepted ",

@@ -23,6 +23,15 @@ pub enum Event<'a> {
         key: (u32, u32),
         call: Call<'a>,
     },
+    Append {
+        key: (u32, u32),
+        call: Call<'a>,
+    },
+    Sync,
+    /// Of the calls that aren't synced, those up to the number `kept` stay.
+    Crash {
+        kept: u32,
+    },
     Send {
         replica: u32,
         number: u32,
@@ -165,7 +174,10 @@ fn event(line: &[u8]) -> Result<Event<'_>, Fault> {
     let mut words = words(line);
     let verb = words.next().unwrap_or_default();
     Ok(match verb {
-        b"ask" => return ask(words),
+        b"ask" => asked(words).map(|(key, call)| Event::Ask { key, call })?,
+        b"append" => asked(words).map(|(key, call)| Event::Append { key, call })?,
+        b"sync" => numbers(words).map(|[]| Event::Sync)?,
+        b"crash" => numbers(words).map(|[kept]| Event::Crash { kept })?,
         b"send" => numbers(words).map(|[replica, number]| Event::Send { replica, number })?,
         b"resend" => numbers(words).map(|[replica]| Event::Resend { replica })?,
         b"to" => numbers(words).map(|[replica, place]| Event::To { replica, place })?,
@@ -191,13 +203,14 @@ fn event(line: &[u8]) -> Result<Event<'_>, Fault> {
     })
 }
 
-fn ask<'a>(mut words: impl Iterator<Item = &'a [u8]>) -> Result<Event<'a>, Fault> {
+type Asked<'a> = ((u32, u32), Call<'a>);
+
+fn asked<'a>(mut words: impl Iterator<Item = &'a [u8]>) -> Result<Asked<'a>, Fault> {
     let (Some(client), Some(request)) = (words.next(), words.next()) else {
         return Err(Fault::WrongWords);
     };
     let key = (number(client)?, number(request)?);
-    let call = call(words)?;
-    Ok(Event::Ask { key, call })
+    Ok((key, call(words)?))
 }
 
 fn mark<'a>(words: impl Iterator<Item = &'a [u8]>) -> Result<Event<'a>, Fault> {

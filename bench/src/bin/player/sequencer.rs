@@ -1,4 +1,5 @@
-//! The sequencer: it numbers requests into a log, and hears what replicas have.
+//! The sequencer: it numbers requests into a log, hears what replicas have, and restarts on what of
+//! the log a crash leaves.
 
 use crate::bank::{Call, Reply};
 use crate::note::Note;
@@ -12,6 +13,8 @@ type Key = (u32, u32);
 
 pub struct Sequencer<'a> {
     log: Vec<Call<'a>>,
+    // How much of the log no crash can take. Replicas get nothing else.
+    synced: usize,
     numbers: HashMap<Key, u64>,
     // For each replica the length that it last acknowledged.
     recorded: Vec<u64>,
@@ -24,6 +27,7 @@ impl<'a> Sequencer<'a> {
     pub fn open(nodes: u32) -> Self {
         Sequencer {
             log: Vec::new(),
+            synced: 0,
             numbers: HashMap::new(),
             recorded: vec![0; nodes as usize],
             checkpoints: vec![0; nodes as usize],
@@ -35,7 +39,14 @@ impl<'a> Sequencer<'a> {
         &self.log
     }
 
+    /// An append, after which all of the log is synced, whatever the note is.
     pub fn ask(&mut self, key: Key, call: Call<'a>) -> Note {
+        let note = self.append(key, call);
+        self.sync();
+        note
+    }
+
+    pub fn append(&mut self, key: Key, call: Call<'a>) -> Note {
         if let Some(&number) = self.numbers.get(&key) {
             return if self.log[number as usize - 1] == call {
                 Note::Repeat(number)
@@ -53,14 +64,35 @@ impl<'a> Sequencer<'a> {
         Note::New(number)
     }
 
-    pub fn call(&self, number: u32) -> Option<Call<'a>> {
-        self.log.get((number as usize).checked_sub(1)?).copied()
+    pub fn sync(&mut self) -> Note {
+        self.synced = self.log.len();
+        Note::Synced(self.synced as u64)
     }
 
-    /// The entries after what a replica acknowledged, as many as are sent at once.
+    /// The sequencer stops, and goes on from its log: all that was synced, and of the rest what has
+    /// a number up to `kept`. Nothing else outlives it.
+    pub fn crash(&mut self, kept: u32) -> Note {
+        self.log.truncate(self.synced.max(kept as usize));
+        self.synced = self.log.len();
+        let length = self.synced as u64;
+        self.numbers.retain(|_, number| *number <= length);
+        self.recorded.fill(0);
+        self.checkpoints.fill(0);
+        self.answers.clear();
+        self.answers.resize(self.log.len(), None);
+        Note::Crashed(length)
+    }
+
+    /// A synced call.
+    pub fn call(&self, number: u32) -> Option<Call<'a>> {
+        let index = (number as usize).checked_sub(1)?;
+        self.log[..self.synced].get(index).copied()
+    }
+
+    /// The synced entries after what a replica acknowledged, as many as are sent at once.
     pub fn unheard(&self, replica: u32) -> Option<impl Iterator<Item = (u64, Call<'a>)>> {
         let recorded = *self.recorded.get(replica as usize)?;
-        let calls = self.log[recorded as usize..].iter().copied();
+        let calls = self.log[recorded as usize..self.synced].iter().copied();
         Some((recorded + 1..).zip(calls).take(RESENT))
     }
 

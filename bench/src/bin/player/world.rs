@@ -55,6 +55,9 @@ impl<'a> World<'a> {
     fn try_step(&mut self, event: &Event<'a>) -> Option<Note> {
         match *event {
             Event::Ask { key, call } => Some(self.sequencer.ask(key, call)),
+            Event::Append { key, call } => Some(self.sequencer.append(key, call)),
+            Event::Sync => Some(self.sequencer.sync()),
+            Event::Crash { kept } => Some(self.sequencer.crash(kept)),
             Event::Send { replica, number } => self.send(replica, number),
             Event::Resend { replica } => self.resend(replica),
             Event::To { replica, place } => self.deliver_to(replica, place),

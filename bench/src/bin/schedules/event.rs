@@ -28,6 +28,9 @@ pub type Key = (u32, u32);
 #[derive(Clone, Copy)]
 pub enum Event {
     Ask(Key, Call),
+    Append(Key, Call),
+    Sync,
+    Crash(u32),
     Send(u32, u32),
     Resend(u32),
     To(u32, u32),
@@ -95,6 +98,11 @@ impl fmt::Display for Event {
     fn fmt(&self, f: &mut fmt::Formatter<'_>) -> fmt::Result {
         match *self {
             Event::Ask((client, request), call) => write!(f, "ask {client} {request} {call}"),
+            Event::Append((client, request), call) => {
+                write!(f, "append {client} {request} {call}")
+            }
+            Event::Sync => f.write_str("sync"),
+            Event::Crash(kept) => write!(f, "crash {kept}"),
             Event::Send(replica, number) => write!(f, "send {replica} {number}"),
             Event::Resend(replica) => write!(f, "resend {replica}"),
             Event::To(replica, place) => write!(f, "to {replica} {place}"),

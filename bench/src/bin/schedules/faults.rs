@@ -50,7 +50,7 @@ const OPENING_LINES: [Faulty; 22] = [
     ("x -10000000000.00 0.00", "negative savings"),
 ];
 
-const EVENT_LINES: [Faulty; 92] = [
+const EVENT_LINES: [Faulty; 115] = [
     ("", "unknown event"),
     (" ", "unknown event"),
     (" ack 0", "unknown event"),
@@ -63,6 +63,10 @@ const EVENT_LINES: [Faulty; 92] = [
     ("cuts 0", "unknown event"),
     ("donors 1", "unknown event"),
     ("gives 0 1", "unknown event"),
+    ("appends 1 1 balance c0", "unknown event"),
+    ("synced", "unknown event"),
+    ("sync\r", "unknown event"),
+    ("crashes 0", "unknown event"),
     ("send", "wrong words"),
     ("send 0", "wrong words"),
     ("send x", "wrong words"),
@@ -99,6 +103,11 @@ const EVENT_LINES: [Faulty; 92] = [
     ("give 0 1 1", "wrong words"),
     ("adopt 0", "wrong words"),
     ("adopt 0 1 ok", "wrong words"),
+    ("sync ", "wrong words"),
+    ("sync 0", "wrong words"),
+    ("crash", "wrong words"),
+    ("crash 0 1", "wrong words"),
+    ("crash 0 ", "wrong words"),
     ("send 00 1", "bad number"),
     ("send 0 01", "bad number"),
     ("resend ", "bad number"),
@@ -126,6 +135,11 @@ const EVENT_LINES: [Faulty; 92] = [
     ("give 0 4294967296", "bad number"),
     ("adopt x 1", "bad number"),
     ("adopt 0 -1", "bad number"),
+    ("crash ", "bad number"),
+    ("crash x", "bad number"),
+    ("crash 00", "bad number"),
+    ("crash -1", "bad number"),
+    ("crash 4294967296", "bad number"),
     ("ask", "wrong words"),
     ("ask x", "wrong words"),
     ("ask x 1", "bad number"),
@@ -143,6 +157,15 @@ const EVENT_LINES: [Faulty; 92] = [
     ("ask 1 1 check c0 1.5", "bad money"),
     ("ask 1 1 pay c0 c1 1", "bad money"),
     ("ask 1 1 pay c0 c0 -0.00", "bad money"),
+    ("append", "wrong words"),
+    ("append 1", "wrong words"),
+    ("append 01 1 balance c0", "bad number"),
+    ("append 1 x", "bad number"),
+    ("append 1 1", "unknown verb"),
+    ("append 1 1 append 1 1 balance c0", "unknown verb"),
+    ("append 1 1 check c0", "wrong words"),
+    ("append 1 1 balance c-0", "bad name"),
+    ("append 1 1 savings c0 0.0", "bad money"),
 ];
 
 /// A schedule's text with one fault in it, and the expected error text.

@@ -76,8 +76,15 @@ pub struct Node {
 pub struct Machine {
     pub customers: usize,
     pub log: Vec<(Key, Call)>,
+    /// How many of these no crash takes. Replicas get no others.
+    pub synced: u32,
+    /// The asks that crashes took.
+    pub lost: Vec<(Key, Call)>,
+    /// The last number that was ever given.
+    pub longest: u32,
     numbers: HashMap<Key, u32>,
-    answered: HashSet<u32>,
+    /// The numbers whose reply the sequencer keeps.
+    pub answered: HashSet<u32>,
     pub nodes: Vec<Node>,
 }
 
@@ -116,6 +123,9 @@ impl Machine {
         Machine {
             customers,
             log: Vec::new(),
+            synced: 0,
+            lost: Vec::new(),
+            longest: 0,
             numbers: HashMap::new(),
             answered: HashSet::new(),
             nodes: (0..nodes).map(node).collect(),
@@ -148,7 +158,14 @@ impl Machine {
 
     fn try_step(&mut self, event: Event) -> Option<Note> {
         match event {
-            Event::Ask(key, call) => Some(self.ask(key, call)),
+            Event::Ask(key, call) => {
+                let note = self.append(key, call);
+                self.sync();
+                Some(note)
+            }
+            Event::Append(key, call) => Some(self.append(key, call)),
+            Event::Sync => Some(self.sync()),
+            Event::Crash(kept) => Some(self.crash(kept)),
             Event::Send(replica, number) => self.send(replica, number),
             Event::Resend(replica) => self.resend(replica),
             Event::To(replica, place) => self.node(replica)?.hear(place),
@@ -186,7 +203,7 @@ impl Machine {
         self.nodes.get_mut(replica as usize)
     }
 
-    fn ask(&mut self, key: Key, call: Call) -> Note {
+    fn append(&mut self, key: Key, call: Call) -> Note {
         match self.numbers.get(&key) {
             Some(number) if self.log[*number as usize - 1].1 == call => {
                 Note::Number("repeat", *number)
@@ -194,14 +211,40 @@ impl Machine {
             Some(number) => Note::Number("mismatch", *number),
             None => {
                 self.log.push((key, call));
+                self.longest = self.longest.max(self.length());
                 self.numbers.insert(key, self.length());
                 Note::Number("new", self.length())
             }
         }
     }
 
+    fn sync(&mut self) -> Note {
+        self.synced = self.length();
+        Note::Number("synced", self.synced)
+    }
+
+    /// How long the log is after a crash that keeps numbers up to this one.
+    pub fn left(&self, kept: u32) -> u32 {
+        self.length().min(self.synced.max(kept))
+    }
+
+    fn crash(&mut self, kept: u32) -> Note {
+        let lost = self.log.split_off(self.left(kept) as usize);
+        for (key, _) in &lost {
+            self.numbers.remove(key);
+        }
+        self.lost.extend(lost);
+        self.synced = self.length();
+        self.answered.clear();
+        for node in &mut self.nodes {
+            node.recorded = 0;
+            node.checkpoint = 0;
+        }
+        Note::Number("crashed", self.synced)
+    }
+
     fn send(&mut self, replica: u32, number: u32) -> Option<Note> {
-        let is_there = (1..=self.length()).contains(&number);
+        let is_there = (1..=self.synced).contains(&number);
         let node = self.node(replica)?;
         is_there.then(|| {
             node.to.push(number);
@@ -210,9 +253,9 @@ impl Machine {
     }
 
     fn resend(&mut self, replica: u32) -> Option<Note> {
-        let length = self.length();
+        let synced = self.synced;
         let node = self.node(replica)?;
-        let last = length.min(node.recorded + RESENT);
+        let last = synced.min(node.recorded + RESENT);
         node.to.extend(node.recorded + 1..=last);
         Some(Note::Number("resent", last.saturating_sub(node.recorded)))
     }

@@ -3,10 +3,13 @@
 //! `schedules random SEED COUNT FOLDER` writes this many, as `N.schedule`. Beside each it writes
 //! what the definitions expect: `N.output` for standard output or, if a line is at fault, `N.fault`
 //! for standard error. `schedules restarts SEED COUNT FOLDER` makes this many short ones without
-//! fault. It writes each with restarts, marks, cuts and adoptions at every place, as `N.schedule`
-//! and `N.output` too. Both print how often each event had each note, in those without fault.
+//! fault. It writes each with restarts, marks, cuts, adoptions and crashes at every place, as
+//! `N.schedule` and `N.output` too. Half as many more have no append, and a crash at every place:
+//! it fails if one of them doesn't end as it does without the crash. Both print how often each
+//! event had each note, in those without fault.
 //! `schedules long EVENTS NODES` writes a long one without fault to standard output.
 
+mod crashes;
 mod event;
 mod faults;
 mod ledger;
@@ -18,6 +21,7 @@ mod random;
 mod restarts;
 mod tally;
 
+use crashes::Pair;
 use event::{Event, money, name};
 use ledger::{Ledger, Rows};
 use machine::{Machine, Note};
@@ -29,7 +33,9 @@ use std::path::Path;
 use std::{env, fs};
 use tally::Tally;
 
-const SEED: u64 = 5;
+// For the long schedule. Its maker draws three numbers more than it did before sequencers crashed, so
+// it begins three numbers earlier: what is measured stays the same schedule.
+const SEED: u64 = 5u64.wrapping_sub(3u64.wrapping_mul(random::STEP));
 
 const NODES: u32 = 16;
 const WORKERS: u32 = 16;
@@ -47,6 +53,8 @@ struct Limits {
     workers: u32,
     events: u32,
     ahead: u32,
+    // Whether there are calls that aren't synced at once.
+    appends: bool,
 }
 
 const LARGE: Limits = Limits {
@@ -54,6 +62,7 @@ const LARGE: Limits = Limits {
     workers: WORKERS,
     events: EVENTS,
     ahead: AHEAD,
+    appends: true,
 };
 
 const SHORT: Limits = Limits {
@@ -61,6 +70,14 @@ const SHORT: Limits = Limits {
     workers: 3,
     events: 24,
     ahead: 0,
+    appends: true,
+};
+
+// Longer, so that the sequencer was told more by the time it crashes.
+const SYNCED: Limits = Limits {
+    events: 60,
+    appends: false,
+    ..SHORT
 };
 
 /// The parts of a schedule.
@@ -81,8 +98,16 @@ impl Schedule {
 struct Made {
     lines: Vec<String>,
     customers: usize,
-    output: String,
+    notes: String,
+    // Where each replica is at the end.
+    states: String,
     tally: Tally,
+}
+
+impl Made {
+    fn output(&self) -> String {
+        format!("{}{}", self.notes, self.states)
+    }
 }
 
 fn drawn(mut random: Random, limits: &Limits) -> Schedule {
@@ -91,6 +116,9 @@ fn drawn(mut random: Random, limits: &Limits) -> Schedule {
     let customers = random.below(CUSTOMERS + 1) as usize;
     let count = random.below(limits.events + 1);
     let mut maker = Maker::new(random);
+    if !limits.appends {
+        maker = maker.without_appends();
+    }
     let opening: Rows = (0..customers)
         .map(|_| (maker.amount().max(0), maker.amount()))
         .collect();
@@ -137,13 +165,13 @@ fn played(schedule: &Schedule, events: &[Event]) -> Made {
     Made {
         lines,
         customers,
-        output: output(&machine, &ledger, &notes),
+        notes: notes.iter().map(|note| note.text(&ledger) + "\n").collect(),
+        states: states(&machine, &ledger),
         tally,
     }
 }
 
-fn output(machine: &Machine, ledger: &Ledger, notes: &[Note]) -> String {
-    let notes = notes.iter().map(|note| note.text(ledger) + "\n");
+fn states(machine: &Machine, ledger: &Ledger) -> String {
     let states = machine.nodes.iter().zip(0..).map(|(node, replica)| {
         let head = format!("replica {replica} length {}", node.length);
         match node.open.is_empty() {
@@ -151,7 +179,7 @@ fn output(machine: &Machine, ledger: &Ledger, notes: &[Note]) -> String {
             false => format!("{head} busy\n"),
         }
     });
-    notes.chain(states).collect()
+    states.collect()
 }
 
 // Writes a schedule and what is expected of it. A third has a fault, and counts nothing.
@@ -170,32 +198,62 @@ fn write_random(seed: u64, folder: &Path, number: u32, tally: &mut Tally) -> io:
         write("schedule", text)?;
         return write("fault", fault);
     }
-    tally.add(made.tally);
     // A last line needs no line feed.
     let end = if random.percent(10) { "" } else { "\n" };
     write("schedule", made.lines.join("\n") + end)?;
-    write("output", made.output)
+    write("output", made.output())?;
+    tally.add(made.tally);
+    Ok(())
 }
 
-// Writes this many schedules, each with a restart and an adoption at every place, numbered from 0.
-fn write_restarts(seed: u64, folder: &Path, count: u32) -> io::Result<Tally> {
-    let mut tally = Tally::default();
-    let mut number = 0;
+/// Where schedules without fault go, numbered from 0.
+struct Folder<'a> {
+    path: &'a Path,
+    number: u32,
+    tally: Tally,
+}
+
+impl Folder<'_> {
+    fn write(&mut self, made: Made) -> io::Result<()> {
+        let path = |ending| self.path.join(format!("{}.{ending}", self.number));
+        fs::write(path("schedule"), made.lines.join("\n") + "\n")?;
+        fs::write(path("output"), made.output())?;
+        self.tally.add(made.tally);
+        self.number += 1;
+        Ok(())
+    }
+}
+
+// Writes this many schedules, each with a restart, an adoption and a crash at every place.
+fn write_restarts(seed: u64, folder: &mut Folder, count: u32) -> io::Result<()> {
     for base in 0..count {
         let mut random = Random::new(seed ^ u64::from(base) << 32);
         let schedule = drawn(Random::new(seed ^ u64::from(base)), &SHORT);
         let replica = random.below(schedule.nodes);
         let machine = schedule.machine();
         for events in restarts::everywhere(&schedule.events, machine, replica, &mut random) {
-            let made = played(&schedule, &events);
-            let write = |ending, text| fs::write(folder.join(format!("{number}.{ending}")), text);
-            write("schedule", made.lines.join("\n") + "\n")?;
-            write("output", made.output)?;
-            tally.add(made.tally);
-            number += 1;
+            folder.write(played(&schedule, &events))?;
         }
     }
-    Ok(tally)
+    Ok(())
+}
+
+// Writes this many schedules without appends, each with a crash at every place, or answers which
+// events end otherwise than without it.
+fn write_crashes(seed: u64, folder: &mut Folder, count: u32) -> Result<(), Box<dyn Error>> {
+    for base in 0..count {
+        let schedule = drawn(Random::new(seed ^ u64::from(base)), &SYNCED);
+        for Pair { crashed, without } in crashes::everywhere(&schedule.events, &schedule.machine())
+        {
+            let made = played(&schedule, &crashed);
+            if made.states != played(&schedule, &without).states {
+                let lines = made.lines.join("\n");
+                return Err(format!("this doesn't end as without its crash:\n{lines}").into());
+            }
+            folder.write(made)?;
+        }
+    }
+    Ok(())
 }
 
 fn main() -> Result<(), Box<dyn Error>> {
@@ -211,8 +269,15 @@ fn main() -> Result<(), Box<dyn Error>> {
         }
         ["restarts", seed, count, folder] => {
             fs::create_dir_all(folder)?;
-            let tally = write_restarts(seed.parse()?, Path::new(folder), count.parse()?)?;
-            print!("{tally}");
+            let (seed, count) = (seed.parse()?, count.parse()?);
+            let mut folder = Folder {
+                path: Path::new(folder),
+                number: 0,
+                tally: Tally::default(),
+            };
+            write_restarts(seed, &mut folder, count)?;
+            write_crashes(seed, &mut folder, count / 2)?;
+            print!("{}", folder.tally);
         }
         ["long", events, nodes] => {
             let mut out = BufWriter::new(io::stdout().lock());

@@ -4,19 +4,28 @@ use crate::event::{Call, Customer, Event, How, Key};
 use crate::machine::{Machine, Node};
 use crate::random::Random;
 
-const KINDS: usize = 18;
+const KINDS: usize = 21;
 
 // How often each kind of event comes: ask, send, resend, to, ack, answer, from, take, finish, mark,
-// restart, cut, next, audit, have, donor, give, adopt.
-const USUAL: [u32; KINDS] = [14, 14, 5, 24, 4, 5, 8, 16, 16, 5, 3, 4, 8, 4, 5, 3, 5, 6];
+// restart, cut, next, audit, have, donor, give, adopt, append, sync, crash. A crash is rare here: it
+// takes what the sequencer was told, and a log that loses its calls stays short.
+const USUAL: [u32; KINDS] = [
+    14, 14, 5, 24, 4, 5, 8, 16, 16, 5, 3, 4, 8, 4, 5, 3, 5, 6, 3, 2, 1,
+];
 
 // The same for replicas that are often idle and get states from one another.
 const CALM: [u32; KINDS] = [
-    5, 10, 3, 20, 3, 5, 14, 30, 30, 14, 2, 3, 6, 3, 10, 8, 10, 14,
+    5, 10, 3, 20, 3, 5, 14, 30, 30, 14, 2, 3, 6, 3, 10, 8, 10, 14, 2, 1, 1,
+];
+
+// The same for a sequencer that often loses asks, and gives their numbers again.
+const LOSING: [u32; KINDS] = [
+    2, 12, 10, 24, 6, 6, 14, 16, 16, 5, 2, 3, 8, 4, 6, 4, 5, 5, 24, 8, 6,
 ];
 
 const ASK: usize = 0;
 const TO: usize = 3;
+const APPEND: usize = 18;
 
 const AMOUNTS: [i64; 8] = [0, 1, 100, 1_000, 12_345, 999_999, 1_000_000_000_000, -1];
 
@@ -34,7 +43,7 @@ pub struct Maker {
 
 impl Maker {
     pub fn new(mut random: Random) -> Self {
-        let usual = *random.pick(&[USUAL, USUAL, CALM]);
+        let usual = *random.pick(&[USUAL, USUAL, USUAL, CALM, CALM, LOSING]);
         let mut shares = usual.map(|usual| usual * random.pick(&[0, 1, 1, 2, 2, 3]));
         // Without these two nothing is ever heard.
         for kind in [ASK, TO] {
@@ -47,6 +56,12 @@ impl Maker {
             calls: 6,
             random,
         }
+    }
+
+    /// Every new call is synced at once.
+    pub fn without_appends(mut self) -> Self {
+        self.shares[APPEND] = 0;
+        self
     }
 
     /// Leaves payments out.
@@ -67,7 +82,10 @@ impl Maker {
         let r = self.replica(machine);
         let node = machine.nodes.get(r as usize).unwrap_or(&machine.nodes[0]);
         match self.fitting_kind(machine, r, node) {
-            ASK => self.ask(machine),
+            ASK => {
+                let (key, call) = self.asked(machine);
+                Event::Ask(key, call)
+            }
             1 => Event::Send(r, self.sent(machine, node)),
             2 => Event::Resend(r),
             TO => Event::To(r, self.place_to(node)),
@@ -91,7 +109,13 @@ impl Maker {
             14 => Event::Have(r),
             15 => Event::Donor(r),
             16 => self.give(machine, r),
-            _ => self.adopt(machine, r),
+            17 => self.adopt(machine, r),
+            APPEND => {
+                let (key, call) = self.asked(machine);
+                Event::Append(key, call)
+            }
+            19 => Event::Sync,
+            _ => Event::Crash(self.kept(machine)),
         }
     }
 
@@ -100,7 +124,7 @@ impl Maker {
         let mut kind = self.kind();
         for _ in 0..4 {
             let is_vain = match kind {
-                1 | 2 => machine.log.is_empty(),
+                1 | 2 => machine.synced == 0,
                 TO => node.to.is_empty(),
                 4 | 5 => node.length == 0,
                 6 => node.from.is_empty(),
@@ -113,6 +137,8 @@ impl Maker {
                 15 => machine.donor(r).is_none(),
                 16 => machine.nodes.iter().all(|donor| donor.kept == 0),
                 17 => machine.nodes.iter().all(|node| node.states.is_empty()),
+                19 => machine.synced == machine.length(),
+                20 => machine.log.is_empty(),
                 _ => false,
             };
             if !is_vain || self.is_blind() {
@@ -158,7 +184,7 @@ impl Maker {
 
     fn sent(&mut self, machine: &Machine, node: &Node) -> u32 {
         let behind = node.to.last().map_or(1, |last| last + 1);
-        match behind <= machine.length() && self.random.percent(60) {
+        match behind <= machine.synced && self.random.percent(60) {
             true => behind,
             false => self.near(machine.length()),
         }
@@ -233,15 +259,28 @@ impl Maker {
         }
     }
 
-    fn ask(&mut self, machine: &Machine) -> Event {
-        if !machine.log.is_empty() && self.random.percent(20) {
-            let (key, call) = *self.random.pick(&machine.log);
-            return match self.random.percent(50) {
-                true => Event::Ask(key, call),
-                false => Event::Ask(key, self.call(machine.customers)),
-            };
+    // A number after which a crash takes what isn't synced: any of those, or now and then another.
+    fn kept(&mut self, machine: &Machine) -> u32 {
+        match self.random.percent(80) {
+            true => machine.synced + self.random.below(machine.length() - machine.synced + 1),
+            false => self.near(machine.length()),
         }
-        Event::Ask(self.key(), self.call(machine.customers))
+    }
+
+    // A request. It may be one of the log's or a lost one, with its call or with another.
+    fn asked(&mut self, machine: &Machine) -> (Key, Call) {
+        let earlier = match self.random.percent(50) && !machine.lost.is_empty() {
+            true => &machine.lost,
+            false => &machine.log,
+        };
+        if earlier.is_empty() || !self.random.percent(20) {
+            return (self.key(), self.call(machine.customers));
+        }
+        let (key, call) = *self.random.pick(earlier);
+        match self.random.percent(50) {
+            true => (key, call),
+            false => (key, self.call(machine.customers)),
+        }
     }
 
     fn key(&mut self) -> Key {

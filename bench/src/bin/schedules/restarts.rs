@@ -4,14 +4,15 @@ use crate::event::{Event, How};
 use crate::machine::Machine;
 use crate::random::Random;
 
-// The events with others inserted before a place.
-fn with(events: &[Event], place: usize, more: &[Event]) -> Vec<Event> {
+/// The events with others inserted before a place.
+pub fn with(events: &[Event], place: usize, more: &[Event]) -> Vec<Event> {
     [&events[..place], more, &events[place..]].concat()
 }
 
 /// The events with a restart of a replica at each place: alone, after a mark that ends in each way,
 /// and after a cut there with a mark at some later place. Also with states that go from each
-/// replica to all at each place, and that after a restart too. The machine is at its opening.
+/// replica to all at each place, and that after a restart too, and with a crash of the sequencer
+/// that keeps some of what isn't synced. The machine is at its opening.
 pub fn everywhere(
     events: &[Event],
     mut machine: Machine,
@@ -32,6 +33,8 @@ pub fn everywhere(
         for first in [&[][..], &[restart]] {
             all.push(with(events, place, &adoptions(&machine, first)));
         }
+        let kept = random.below(machine.length() + 1);
+        all.push(with(events, place, &[Event::Crash(kept)]));
         if let Some(event) = events.get(place) {
             machine.step(*event);
         }
@@ -57,15 +60,16 @@ fn adoptions(machine: &Machine, first: &[Event]) -> Vec<Event> {
     all
 }
 
-fn play(events: &[Event], machine: &mut Machine, all: &mut Vec<Event>) {
+/// The machine takes these events, which then stand behind all others.
+pub fn play(events: &[Event], machine: &mut Machine, all: &mut Vec<Event>) {
     for event in events {
         machine.step(*event);
     }
     all.extend(events);
 }
 
-// Its workers finish what they hold, and one of them finishes all that is left.
-fn settle(replica: u32, machine: &mut Machine, all: &mut Vec<Event>) {
+/// A replica's workers finish what they hold, and one of them finishes all that is left.
+pub fn settle(replica: u32, machine: &mut Machine, all: &mut Vec<Event>) {
     let workers = machine.nodes[replica as usize].hands.len() as u32;
     for worker in 1..=workers {
         play(&[Event::Finish(replica, worker)], machine, all);

@@ -1,19 +1,29 @@
 -- Events whose calls stand in a list of their own.
-use Rattle.std.specs.Prelude.{Bool, true, false, List, [], ◌∷◌}
+use Rattle.std.specs.Prelude.{Bool, true, false, Option, Some, None, List, [], ◌∷◌}
 use Rattle.sb_calls.specs.declared.call.Call.{Call}
 use Rattle.schedule_text.specs.declared.event.Event.{Event}
 use Rattle.schedule_text.specs.declared.event.Event.TheVariants as event
 use Rattle.schedule_text.specs.declared.events.ShortEvent.{ShortEvent}
 use Rattle.schedule_text.specs.declared.events.ShortEvent.TheVariants as short
 
--- whether an event lacks its call
-abbrev pub is_short_ask : ShortEvent → Bool
-is_short_ask (short.Ask client request) = true
-is_short_ask other = false
+-- whether an event has a call, which stands in the list of calls
+abbrev pub has_call : ShortEvent → Bool
+has_call (short.Ask client request) = true
+has_call (short.Append client request) = true
+has_call other = false
 
--- an event without its call, if it is an ask
+-- the call of an event, if it has one
+abbrev pub event_call : Event → Option Call
+event_call (event.Ask client request call) = Some call
+event_call (event.Append client request call) = Some call
+event_call other = None
+
+-- an event without its call, if it has one
 abbrev pub without_call : Event → ShortEvent
 without_call (event.Ask client request call) = short.Ask client request
+without_call (event.Append client request call) = short.Append client request
+without_call event.Sync = short.Sync
+without_call (event.Crash kept) = short.Crash kept
 without_call (event.Send replica number) = short.Send replica number
 without_call (event.Resend replica) = short.Resend replica
 without_call (event.To replica position) = short.To replica position
@@ -32,12 +42,17 @@ without_call (event.Give donor replica) = short.Give donor replica
 without_call (event.Adopt replica position) = short.Adopt replica position
 without_call (event.Audit first second) = short.Audit first second
 
--- the events, if each ask among them has the next of these calls
+-- the events, if each of them that has a call has the next of these
 abbrev pub events_with_calls : List ShortEvent → List Call → List Event
 events_with_calls [] calls = []
 events_with_calls (short.Ask client request ∷ shorts) [] = []
 events_with_calls (short.Ask client request ∷ shorts) (call ∷ calls) =
     event.Ask client request call ∷ events_with_calls shorts calls
+events_with_calls (short.Append client request ∷ shorts) [] = []
+events_with_calls (short.Append client request ∷ shorts) (call ∷ calls) =
+    event.Append client request call ∷ events_with_calls shorts calls
+events_with_calls (short.Sync ∷ shorts) calls = event.Sync ∷ events_with_calls shorts calls
+events_with_calls (short.Crash kept ∷ shorts) calls = event.Crash kept ∷ events_with_calls shorts calls
 events_with_calls (short.Send replica number ∷ shorts) calls =
     event.Send replica number ∷ events_with_calls shorts calls
 events_with_calls (short.Resend replica ∷ shorts) calls = event.Resend replica ∷ events_with_calls shorts calls

@@ -11,10 +11,10 @@ found_is h = cc
 no_fault : {a : Frame × ℕ} {fault : FrameFault} → ◌≡◌ {A = Result (Frame × ℕ) FrameFault} (Err fault) (Ok a) → ⊥
 no_fault h = cc
 
-pub returns-in-Ok : goal.returns-in-Ok
-returns-in-Ok c sent spelled =
-    subst (λ f. ReceivesFrame c.args.sequencer.now f c.receive_frame.result c.receive_frame.new.sequencer)
-    (ap (λ found. found.0) (found_is (c.in-Ok.ensures.exact ∙ decoded_whole sent c.args.bytes.now spelled))) c.receive_frame.ensures
+pub returns-in-Ok-clause-receives : goal.returns-in-Ok-clause-receives
+returns-in-Ok-clause-receives c sent spelled =
+    subst (λ f. ReceivesFrame c.args.sequencer.now.synced f c.receive_frame.result c.receive_frame.new.sequencer.synced)
+    (ap (λ found. found.0) (found_is (c.in-Ok.ensures.exact ∙ decoded_whole sent c.args.bytes.now spelled))) c.receive_frame.ensures.receives
 
-pub returns-in-Err : goal.returns-in-Err
-returns-in-Err c sent spelled = absurd (no_fault (c.in-Err.ensures.exact ∙ decoded_whole sent c.args.bytes.now spelled))
+pub returns-in-Err-clause-receives : goal.returns-in-Err-clause-receives
+returns-in-Err-clause-receives c sent spelled = absurd (no_fault (c.in-Err.ensures.exact ∙ decoded_whole sent c.args.bytes.now spelled))

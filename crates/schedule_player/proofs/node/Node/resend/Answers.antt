@@ -7,7 +7,7 @@ use Rattle.schedule_player.proofs.node.Node.resend.Goals as goal
 
 pub returns : goal.returns
 returns c names opening r lt is =
-    let s = c.args.sequencer.now in
+    let s = c.args.sequencer.now.synced in
     let old = c.args.self.now in
     let entries : c.resend-entries.result.items ≡ entries_to_resend s c.args.replica = c.resend-entries.ensures ∙ ap (entries_to_resend s) c.in-Ok.ensures.1 in
     sends_all (bank_with names opening s.log) r old c.send_all.new.self (entries_to_resend s c.args.replica) c.len.result is

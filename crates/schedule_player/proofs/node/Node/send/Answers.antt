@@ -13,7 +13,7 @@ returns-in_default c names opening r is = record { consistent = is; move_is = ap
 
 pub returns : goal.returns
 returns c names opening r is =
-    let log = c.args.sequencer.now.log in
+    let log = c.args.sequencer.now.synced.log in
     let found = sym c.in-Some.ensures in
     sends_one (bank_with names opening log) r c.args.self.now c.send.new.self (entry_of log c.args.number) c.in-Some.entry c.in_ok-position.position is found
     (entry_is names opening log c.args.number c.in-Some.entry found) c.in_ok-position.ensures.sent c.in_ok-position.ensures.position

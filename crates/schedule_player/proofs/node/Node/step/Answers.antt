@@ -6,14 +6,14 @@ use Rattle.schedule_player.proofs.node.Node.step.Goals as goal
 
 pub returns-in-Take : goal.returns-in-Take
 returns-in-Take c names opening r lt at is =
-    let s = c.args.sequencer.now in
+    let s = c.args.sequencer.now.synced in
     let bank = bank_with names opening s.log in
     subst (λ happens. MovesTo bank r c.take.new.self c.take.result (node_move bank s (machine_node c.args.self.now) happens)) (sym c.in-Take.is)
     (c.take.ensures bank r is)
 
 pub returns-in-Finish : goal.returns-in-Finish
 returns-in-Finish c names opening r lt at is =
-    let s = c.args.sequencer.now in
+    let s = c.args.sequencer.now.synced in
     let bank = bank_with names opening s.log in
     subst (λ happens. MovesTo bank r c.finish.new.self c.finish.result (node_move bank s (machine_node c.args.self.now) happens)) (sym c.in-Finish.is)
     (c.finish.ensures bank r is)

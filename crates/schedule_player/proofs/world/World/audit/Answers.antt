@@ -127,7 +127,7 @@ books-requires-clause-limit c =
     let count = size c in
     let within = within_log (contents_of bank.opening) (ops_of bank) c.index.result.now.replica.board (look_one looks).consistent.board in
     let ops = length-map (op_of bank.names) bank.calls in
-    let calls = length-map (λ entry. entry.1) now.sequencer.log in
+    let calls = length-map (λ entry. entry.1) now.sequencer.synced.log in
     omega (arith, count, within, ops, calls)
 
 pub books-requires-clause-rows : goal.books-requires-clause-rows

@@ -21,7 +21,7 @@ returns-else-found c =
     let bank = bank_of c.args.self.now in
     let same : SameCustomers bank.names bank.opening = subst (λ w. SameCustomers w.names w.opening) c.self.view_is c.self.invariant.customers in
     let balance = books_balance bank (length c.args.replies.now) c.args.columns.now same c.requires.rows in
-    let calls = ap (take (length c.args.replies.now)) (c.calls.ensures ∙ ap (λ w. map (λ entry. entry.1) w.sequencer.log) c.self.view_is) in
+    let calls = ap (take (length c.args.replies.now)) (c.synced_calls.ensures ∙ ap (λ w. map (λ entry. entry.1) w.sequencer.synced.log) c.self.view_is) in
     let fits : FitsSigned w64 c.bank_total.result = search rules in
     let opening = to_z-of_z w64 c.bank_total.result fits ∙ c.bank_total.ensures.value ∙ ap
     (λ w. total w.opening.savings +ℤ total w.opening.checking) c.self.view_is in

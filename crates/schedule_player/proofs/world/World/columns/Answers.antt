@@ -1,4 +1,3 @@
-use Rattle.std.proofs.Common.{refl}
 use Rattle.cown_board.specs.Board.{IsAfterAll}
 use Rattle.sb_calls.specs.Behaviour.{declared_cowns, effect_of}
 use Rattle.schedule_player.specs.EventLists.{bank_after}
@@ -6,6 +5,7 @@ use Rattle.schedule_player.specs.World.{bank_of}
 use Rattle.schedule_player.proofs.AuditResults.{looked_up}
 use Rattle.schedule_player.proofs.Observers.{lent_idle, lent_rows}
 use Rattle.schedule_player.proofs.EventLists.{played_bank}
+use Rattle.schedule_player.proofs.LongerLogs.{itself}
 use Rattle.schedule_player.proofs.world.World.columns.Goals as goal
 
 pub returns-clause-idle : goal.returns-clause-idle
@@ -24,7 +24,7 @@ returns-clause-rows c =
     let found = looked_up w.directory w.opening w.sequencer w.nodes.items c.args.self.now c.args.replica node c.self.view_is c.self.invariant
     c.requires c.index.ensures in
     lent_rows c.args.self.now c.args.replica node found (λ columns. columns.now) c.final_columns.result (bank_of c.args.self.now)
-    c.final_columns.ensures.value c.final_columns.ensures.bank refl
+    c.final_columns.ensures.value c.final_columns.ensures.bank (itself (bank_of c.args.self.now))
 
 pub returns-clause-by_log : goal.returns-clause-by_log
 returns-clause-by_log c schedule played =

@@ -9,7 +9,7 @@ use Rattle.schedule_player.proofs.WorldStep.{world_of}
 use Rattle.schedule_player.proofs.world.World.receive_report.Goals as goal
 
 -- the sequencer hears the frame, and so the world moves
-heard : (c : goal.After-receive_report) → let w = c.self.inside in IsWorld w.directory w.opening c.receive_report.new.sequencer w.nodes.items
+heard : (c : goal.After-receive_report) → let w = c.self.inside in IsWorld w.directory w.opening c.receive_report.new.sequencer.synced w.nodes.items
     × (from_move (world_of w.directory w.opening w.sequencer w.nodes.items) c.args.replica c.args.position (slice_get
     (map machine_node w.nodes.items) c.args.replica)
     ≡ (world_of w.directory w.opening c.receive_report.new.sequencer w.nodes.items, c.receive_report.result))
@@ -19,8 +19,17 @@ heard c =
     let here : slice_get w.nodes.items c.args.replica ≡ Some c.in-Some.node.now =
     ap (λ xs. slice_get xs c.args.replica) (sym c.deref.ensures.value) ∙ get_here c.deref.result.now c.args.replica c.in-Some.node.now found.3.0 found.1 in
     let sent = c.in-Some-get.ensures in
-    hears_told w.directory w.opening w.sequencer w.nodes.items c.self.invariant c.args.replica c.args.position c.in-Some.node.now sent.0 c.receive_report.result
-    c.receive_report.new.sequencer here sent.1 (c.receive_report.ensures sent.0 sent.2)
+    let new = c.receive_report.new.sequencer in
+    let told =
+    hears_told w.directory w.opening w.sequencer.synced w.sequencer.unsynced w.nodes.items c.self.invariant c.args.replica c.args.position
+    c.in-Some.node.now sent.0 c.receive_report.result new.synced here sent.1 (c.receive_report.ensures.receives sent.0 sent.2) in (
+      told.0,
+      told.1
+          ∙ (λ j. (
+            world_of w.directory w.opening (record { synced = new.synced; unsynced = sym c.receive_report.ensures.unsynced j }) w.nodes.items,
+            c.receive_report.result,
+          )),
+    )
 
 pub invariant_of-self : goal.invariant_of-self
 invariant_of-self c = (heard c).0

@@ -13,8 +13,9 @@ here : (c : goal.After-self-2-1) → slice_get c.self.inside.nodes.items c.args.
 here c = get_here c.self.inside.nodes.items c.args.replica c.in-Some.node.now c.in-Some.ensures.item.3.0 c.in-Some.ensures.value
 
 -- and moves
-moves : (c : goal.After-self-2-1) → let w = c.self.inside in let bank = bank_with w.directory w.opening w.sequencer.log in
-    Steps bank c.args.replica c.in-Some.node.now c.step.new.self c.step.result (node_move bank w.sequencer (machine_node c.in-Some.node.now) c.args.event)
+moves : (c : goal.After-self-2-1) → let w = c.self.inside in let bank = bank_with w.directory w.opening w.sequencer.synced.log in
+    Steps bank c.args.replica c.in-Some.node.now c.step.new.self c.step.result
+    (node_move bank w.sequencer.synced (machine_node c.in-Some.node.now) c.args.event)
 moves c =
     let w = c.self.inside in
     let within = c.in-Some.ensures.item.3.0 in
@@ -23,15 +24,15 @@ moves c =
     (c.self.invariant.each c.args.replica c.in-Some.node.now (here c))
 
 -- so does the world
-stepped : (c : goal.After-self-2-1) → let w = c.self.inside in let bank = bank_with w.directory w.opening w.sequencer.log in
-    Stepped w.directory w.opening w.sequencer w.nodes.items c.args.replica c.step.new.self (λ node. node_move bank w.sequencer node c.args.event)
+stepped : (c : goal.After-self-2-1) → let w = c.self.inside in let bank = bank_with w.directory w.opening w.sequencer.synced.log in
+    Stepped w.directory w.opening w.sequencer w.nodes.items c.args.replica c.step.new.self (λ node. node_move bank w.sequencer.synced node c.args.event)
     c.step.result
 stepped c =
     let w = c.self.inside in
-    let bank = bank_with w.directory w.opening w.sequencer.log in
+    let bank = bank_with w.directory w.opening w.sequencer.synced.log in
     steps w.directory w.opening w.sequencer w.nodes.items c.args.replica c.in-Some.node.now c.step.new.self
-    (λ node. node_move bank w.sequencer node c.args.event) c.step.result c.self.invariant (here c)
-    (stays_staffed bank w.sequencer (machine_node c.in-Some.node.now) c.args.event) (moves c)
+    (λ node. node_move bank w.sequencer.synced node c.args.event) c.step.result c.self.invariant (here c)
+    (stays_staffed bank w.sequencer.synced (machine_node c.in-Some.node.now) c.args.event) (moves c)
 
 pub invariant_of-self-2 : goal.invariant_of-self-2
 invariant_of-self-2 c = (stepped c).is

@@ -1,8 +1,8 @@
 use Rattle.schedule_player.specs.EventLists.{bank_after}
 use Rattle.schedule_player.specs.World.{bank_of}
-use Rattle.std.proofs.Common.{refl}
 use Rattle.schedule_player.proofs.SameAnswers.{holds, same_answers}
 use Rattle.schedule_player.proofs.EventLists.{played_bank}
+use Rattle.schedule_player.proofs.LongerLogs.{itself}
 use Rattle.schedule_player.proofs.world.World.replies_agree.Goals as goal
 
 pub returns-clause-agree : goal.returns-clause-agree
@@ -13,10 +13,11 @@ returns-clause-agree c =
 pub returns-clause-log_reply : goal.returns-clause-log_reply
 returns-clause-log_reply c =
     let now = c.args.self.now in
-    (holds now (bank_of now) c.args.a c.args.number refl, holds now (bank_of now) c.args.b c.args.number refl)
+    let same = itself (bank_of now) in
+    (holds now (bank_of now) c.args.a c.args.number same, holds now (bank_of now) c.args.b c.args.number same)
 
 pub returns-clause-by_log : goal.returns-clause-by_log
 returns-clause-by_log c schedule played =
     let now = c.args.self.now in
-    let same = played_bank schedule now played in
-    (holds now (bank_after schedule) c.args.a c.args.number same, holds now (bank_after schedule) c.args.b c.args.number same)
+    let begins = played_bank schedule now played in
+    (holds now (bank_after schedule) c.args.a c.args.number begins, holds now (bank_after schedule) c.args.b c.args.number begins)

@@ -1,7 +1,10 @@
+use Rattle.std.proofs.Common.{subst}
 use Rattle.schedule_player.specs.EventLists.{bank_after}
+use Rattle.schedule_player.specs.LogAgreement.{WorldAgreesWithLog}
 use Rattle.schedule_player.proofs.AuditResults.{looked_up}
 use Rattle.schedule_player.proofs.WorldStates.{state_here, state_by_log}
 use Rattle.schedule_player.proofs.EventLists.{played_bank}
+use Rattle.schedule_player.proofs.WorldOpening.{true_to_log}
 use Rattle.schedule_player.proofs.world.World.state.Goals as goal
 
 pub returns-clause-value : goal.returns-clause-value
@@ -14,5 +17,7 @@ returns-clause-value c =
 
 pub returns-clause-by_log : goal.returns-clause-by_log
 returns-clause-by_log c schedule played =
-    state_by_log c.args.self.now c.args.replica c.args.position (bank_after schedule) c.get.result (played_bank schedule c.args.self.now played)
-    (returns-clause-value c)
+    let w = c.self.inside in
+    state_by_log c.args.self.now c.args.replica c.args.position (bank_after schedule) c.get.result
+    (subst WorldAgreesWithLog c.self.view_is (true_to_log w.directory w.opening w.sequencer w.nodes.items c.self.invariant))
+    (played_bank schedule c.args.self.now played) (returns-clause-value c)

@@ -1,0 +1,2 @@
+pub mod DurableSequencer
+pub mod inner
