@@ -5,7 +5,7 @@ use Rattle.std.proofs.lemmas.Grind.{flat_map-append}
 use Rattle.std.proofs.lemmas.List.Folds.{list_any-append}
 use Rattle.sb_frames.specs.declared.frame.Frame.{Frame}
 use Rattle.sb_frames.specs.declared.frame.Frame.TheVariants.{Flush}
-use Rattle.bank_server.specs.inner.SessionSteps.{unflushed_asks}
+use Rattle.bank_server.specs.Pending.{unflushed_asks}
 use Rattle.bank_server.specs.Session.{ask_of_frame, asks_in, is_flush, flushed_asks}
 
 -- each ask gets its outcome or waits

@@ -20,7 +20,7 @@ use Rattle.bank_server.specs.Primary.{PreservesBank, PrimaryOf}
 use Rattle.bank_server.specs.SessionResults.{IsFaultAt}
 use Rattle.bank_server.specs.SessionFaults.{LosesCrew}
 use Rattle.bank_server.specs.declared.session_fault.SessionFault.{SessionFault}
-use Rattle.bank_server.specs.declared.session_fault.SessionFault.TheVariants.{Frame, Unexpected, CrewGone, Device, OutOfMemory, Log}
+use Rattle.bank_server.specs.declared.session_fault.SessionFault.TheVariants.{Frame, Unexpected, CrewGone, Device, OutOfMemory, Log, TooMany}
 use Rattle.bank_server.proofs.Keeping.{goes_on_after}
 use Rattle.bank_server.proofs.SessionSteps.{leads_nowhere, leads_on}
 
@@ -59,6 +59,7 @@ loses_behind keeps old mid CrewGone none is = λ e out. is e (none e out)
 loses_behind keeps old mid Device none is = tt
 loses_behind keeps old mid OutOfMemory none is = tt
 loses_behind keeps old mid (Log f) none is = tt
+loses_behind keeps old mid TooMany none is = tt
 
 -- a frame that is refused stops a session
 pub refused_stops : (opening : Rows) (old mid new : SessionState) (unread left behind : List ℕ) (frame : frames.Frame) (bytes : List ℕ) (fault : SessionFault)
@@ -86,6 +87,7 @@ refused_stops opening old mid new unread left behind frame bytes OutOfMemory hea
     record { there = mid; rest = left; handles = heard; at = λ more. tt; left = refused }
 refused_stops opening old mid new unread left behind frame bytes (Log fault) heard spells is refused =
     record { there = mid; rest = left; handles = heard; at = λ more. tt; left = refused }
+refused_stops opening old mid new unread left behind frame bytes TooMany heard spells is refused = absurd refused
 
 err_is : {T : Type 0} {x y : FrameFault} → ◌≡◌ {A = Result T FrameFault} (Err x) (Err y) → x ≡ y
 err_is h = cc

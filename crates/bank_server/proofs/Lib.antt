@@ -2,6 +2,11 @@ pub mod Agreements
 pub mod AnswerStandings
 pub mod AskedLines
 pub mod Boards
+pub mod ClientAsks
+pub mod ClientLists
+pub mod ClientPlaces
+pub mod ClientSteps
+pub mod ClientTurns
 pub mod FinalAnswers
 pub mod FinalOutcomes
 pub mod FlatLists
@@ -19,5 +24,6 @@ pub mod Saves
 pub mod SessionSteps
 pub mod Sessions
 pub mod Standings
+pub mod Stirs
 pub mod WholeOutput
 pub mod WholeReplies

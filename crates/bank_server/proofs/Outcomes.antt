@@ -14,7 +14,7 @@ use Rattle.sb_calls.specs.declared.reply.Reply.{Reply}
 use Rattle.sb_sequencer.proofs.LogSteps.{first_asks-push}
 use Rattle.sb_sequencer.specs.Log.{log_with}
 use Rattle.sb_sequencer.specs.Numbering.{first_asks, has_key, index_of_key, same_key, calls_of}
-use Rattle.bank_server.specs.inner.SessionSteps.{pending_ask}
+use Rattle.bank_server.specs.Pending.{pending_ask}
 use Rattle.bank_server.specs.Session.{outcome_by, outcome_of, outcome_of_reply}
 use Rattle.bank_server.specs.Standing.{numbered_standing, same_call, standing_at, standing_of}
 use Rattle.bank_server.specs.declared.asking.Standing.{Standing}

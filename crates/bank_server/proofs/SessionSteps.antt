@@ -13,7 +13,8 @@ use Rattle.sb_frames.specs.declared.frame.Frame.{Frame}
 use Rattle.sb_frames.specs.declared.frame.Frame.TheVariants.{Ask, Flush}
 use Rattle.sb_sequencer.specs.Numbering.{first_asks, calls_of}
 use Rattle.bank_server.specs.inner.AskSteps.{AddsAsk}
-use Rattle.bank_server.specs.inner.SessionSteps.{Reaches, Leads, SessionState, unflushed_asks, pending_ask}
+use Rattle.bank_server.specs.Pending.{unflushed_asks, pending_ask}
+use Rattle.bank_server.specs.inner.SessionSteps.{Reaches, Leads, SessionState}
 use Rattle.bank_server.specs.inner.FlushFaults.{IsFlushFault}
 use Rattle.bank_server.specs.SessionFaults.{IsSettleFault}
 use Rattle.bank_server.specs.Session.{IsFromClient, asks_in, outcome_by, outcome_of, outcomes_of, flushed_asks}
@@ -38,7 +39,7 @@ leads_on opening old mid new xs ys first second before start frames came =
 
 -- ---- an ask
 
-map-push : {A B : Type 0} (f : A → B) (xs : List A) (x : A) → map f (xs ++ x ∷ []) ≡ map f xs ++ f x ∷ []
+pub map-push : {A B : Type 0} (f : A → B) (xs : List A) (x : A) → map f (xs ++ x ∷ []) ≡ map f xs ++ f x ∷ []
 map-push f [] x = refl
 map-push f (y ∷ xs) x = ap (λ l. f y ∷ l) (map-push f xs x)
 
@@ -94,14 +95,14 @@ ask_leads opening old new key call standing asked pending written before start f
 
 -- ---- a flush
 
-appends_more : (start old new : Option (List ℕ)) (xs ys : List ℕ) → Appends start old xs → Appends old new ys → Appends start new (xs ++ ys)
+pub appends_more : (start old new : Option (List ℕ)) (xs ys : List ℕ) → Appends start old xs → Appends old new ys → Appends start new (xs ++ ys)
 appends_more None old new xs ys first second = tt
 appends_more (Some s) None new xs ys first second = absurd first
 appends_more (Some s) (Some o) None xs ys first second = absurd second
 appends_more (Some s) (Some o) (Some n) xs ys first second = second ∙ ap (λ (l : List ℕ). l ++ ys) first ∙ append_assoc s xs ys
 
 -- what is spelled for the waiting asks is the spelling of their outcomes
-spelled_of : (opening : Rows) (log : List (Key × Call)) (asks : List (Key × Call))
+pub spelled_of : (opening : Rows) (log : List (Key × Call)) (asks : List (Key × Call))
     → flat_map (λ (w : PendingAsk). flat_map spelling (outcome_by (replies_to opening (calls_of log)) w.key w.standing)) (map (pending_ask log) asks)
     ≡ flat_map spelling (flat_map (outcome_of opening log) asks)
 spelled_of opening log [] = refl
@@ -144,3 +145,4 @@ flush_of_settle faults.CrewGone is = tt
 flush_of_settle faults.Device is = absurd is
 flush_of_settle faults.OutOfMemory is = tt
 flush_of_settle (faults.Log fault) is = tt
+flush_of_settle faults.TooMany is = absurd is

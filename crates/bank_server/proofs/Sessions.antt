@@ -20,7 +20,7 @@ use Rattle.bank_server.specs.Session.{IsFromClient, log_of_session, outcomes_of}
 use Rattle.bank_server.specs.inner.FlushFaults.{IsEndFault}
 use Rattle.bank_server.specs.SessionFaults.{IsSettleFault}
 use Rattle.bank_server.specs.declared.session_fault.SessionFault.{SessionFault}
-use Rattle.bank_server.specs.declared.session_fault.SessionFault.TheVariants.{Frame, Unexpected, CrewGone, Device, OutOfMemory, Log}
+use Rattle.bank_server.specs.declared.session_fault.SessionFault.TheVariants.{Frame, Unexpected, CrewGone, Device, OutOfMemory, Log, TooMany}
 use Rattle.bank_server.proofs.OwnLog.{own_log}
 
 -- these bytes were frames that led from a log to here, and then what is unread
@@ -99,6 +99,8 @@ told_before CrewGone opening before start frames there new came left = left ∙ 
 told_before Device opening before start frames there new came left = left ∙ came.log_is
 told_before OutOfMemory opening before start frames there new came left = left ∙ came.log_is
 told_before (Log fault) opening before start frames there new came left = left ∙ came.log_is
+told_before TooMany opening before start frames there new came left =
+    told_at opening before start frames new new.log refl (subst (Reaches opening before start frames) (sym left) came)
 
 -- a fault within a read
 pub stopped : (opening : Rows) (before : List (Key × Call)) (start : Option (List ℕ)) (bytes chunk behind input : List ℕ) (mid : SessionState)
@@ -144,6 +146,7 @@ end_at CrewGone stream short is = tt
 end_at Device stream short is = absurd is
 end_at OutOfMemory stream short is = tt
 end_at (Log fault) stream short is = tt
+end_at TooMany stream short is = absurd is
 
 -- at the end nothing was written, and the log stays
 pub end_left : (fault : SessionFault) (stream : StreamState) (at new : SessionState) → IsEndFault stream fault → new ≡ at → IsStateAfterFault fault at new
@@ -153,6 +156,7 @@ end_left CrewGone stream at new is same = ap (λ (p : SessionState). p.log) same
 end_left Device stream at new is same = ap (λ (p : SessionState). p.log) same
 end_left OutOfMemory stream at new is same = ap (λ (p : SessionState). p.log) same
 end_left (Log fault) stream at new is same = ap (λ (p : SessionState). p.log) same
+end_left TooMany stream at new is same = same
 
 -- a log that can't be executed at first
 pub settle_at : (fault : SessionFault) (rest : List ℕ) → IsSettleFault fault → IsFaultAt fault rest
@@ -162,6 +166,7 @@ settle_at CrewGone rest is = tt
 settle_at Device rest is = absurd is
 settle_at OutOfMemory rest is = tt
 settle_at (Log fault) rest is = tt
+settle_at TooMany rest is = absurd is
 
 pub settle_left : (fault : SessionFault) (at new : SessionState) → IsSettleFault fault → new.log ≡ at.log → IsStateAfterFault fault at new
 settle_left (Frame fault) at new is same = absurd is
@@ -170,6 +175,7 @@ settle_left CrewGone at new is same = same
 settle_left Device at new is same = same
 settle_left OutOfMemory at new is same = same
 settle_left (Log fault) at new is same = same
+settle_left TooMany at new is same = absurd is
 
 -- ---- what a reader had
 

@@ -1,12 +1,14 @@
 pub mod Agreement
 pub mod AskResults
 pub mod Asks
+pub mod Clients
 pub mod Execution
 pub mod Faults
 pub mod Followers
 pub mod Input
 pub mod LogNumber
 pub mod Output
+pub mod Pending
 pub mod PreparedInput
 pub mod Primary
 pub mod Saving

@@ -34,6 +34,15 @@ is_flush (Outcome client request outcome) = false
 is_flush Flush = true
 is_flush (Have replica size) = false
 
+abbrev pub IsAskFrame : Frame → Type 0
+IsAskFrame (Ask client request call) = Unit {0}
+IsAskFrame (Entry number call) = ⊥
+IsAskFrame (Ack replica size) = ⊥
+IsAskFrame (Answer number reply) = ⊥
+IsAskFrame (Outcome client request outcome) = ⊥
+IsAskFrame Flush = ⊥
+IsAskFrame (Have replica size) = ⊥
+
 -- the ask in a frame, if it is one
 abbrev pub ask_of_frame : Frame → List (Key × Call)
 ask_of_frame (Ask client request call) = (record { client = client; request = request }, call) ∷ []

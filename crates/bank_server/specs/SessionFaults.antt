@@ -5,7 +5,7 @@ use Rattle.cown_workers.specs.Draining.{HasNoneOut}
 use Rattle.sb_ask_log.specs.Keeping.{IsKeepFault}
 use Rattle.sb_calls.specs.declared.op.Op.{Op}
 use Rattle.bank_server.specs.declared.session_fault.SessionFault.{SessionFault}
-use Rattle.bank_server.specs.declared.session_fault.SessionFault.TheVariants.{Frame, Unexpected, CrewGone, Device, OutOfMemory, Log}
+use Rattle.bank_server.specs.declared.session_fault.SessionFault.TheVariants.{Frame, Unexpected, CrewGone, Device, OutOfMemory, Log, TooMany}
 
 -- a fault's number
 abbrev pub session_fault_number : SessionFault → ℕ
@@ -15,6 +15,7 @@ session_fault_number CrewGone = 3
 session_fault_number Device = 4
 session_fault_number OutOfMemory = 5
 session_fault_number (Log fault) = 6
+session_fault_number TooMany = 7
 
 -- memory was refused, or the crew is gone
 abbrev pub IsSettleFault : SessionFault → Type 0
@@ -22,11 +23,17 @@ IsSettleFault CrewGone = Unit {0}
 IsSettleFault OutOfMemory = Unit {0}
 IsSettleFault other = ⊥
 
+-- the same, or the log can't be kept
+abbrev pub IsTurnFault : SessionFault → Type 0
+IsTurnFault (Log fault) = Unit {0}
+IsTurnFault other = IsSettleFault other
+
 -- the client or its connection is at fault, and the next session can be served
 abbrev pub IsClientFault : SessionFault → Type 0
 IsClientFault (Frame fault) = Unit {0}
 IsClientFault Unexpected = Unit {0}
 IsClientFault Device = Unit {0}
+IsClientFault TooMany = Unit {0}
 IsClientFault other = ⊥
 
 -- the log can't be kept, which may fail, by a keeper that has failed or not

@@ -8,9 +8,9 @@ use Rattle.sb_calls.specs.declared.call.Call.{Call}
 use Rattle.sb_frames.specs.Decoding.{decode_result}
 use Rattle.sb_frames.specs.Grammar.{IsFrame, spelling}
 use Rattle.sb_frames.specs.declared.frame.Frame as frames
-use Rattle.bank_server.specs.Session.{IsFromClient, log_of_session, outcomes_of}
+use Rattle.bank_server.specs.Session.{IsAskFrame, IsFromClient, log_of_session, outcomes_of}
 use Rattle.bank_server.specs.declared.session_fault.SessionFault.{SessionFault}
-use Rattle.bank_server.specs.declared.session_fault.SessionFault.TheVariants.{Frame, Unexpected, CrewGone, Device, OutOfMemory, Log}
+use Rattle.bank_server.specs.declared.session_fault.SessionFault.TheVariants.{Frame, Unexpected, CrewGone, Device, OutOfMemory, Log, TooMany}
 
 -- the log is that of a session of these frames, and the output is the spelling of their outcomes
 pub record WritesOutcomes (opening : Rows) (before : List (Key × Call)) (frames : List frames.Frame)
@@ -37,6 +37,9 @@ IsFaultAt CrewGone rest = Unit {0}
 IsFaultAt Device rest = Unit {0}
 IsFaultAt OutOfMemory rest = Unit {0}
 IsFaultAt (Log fault) rest = Unit {0}
+-- they begin with one ask more
+IsFaultAt TooMany rest = (frame : frames.Frame) × (behind : List ℕ)
+    × IsFrame frame × IsAskFrame frame × (rest ≡ spelling frame ++ behind)
 
 -- after a fault of what the client sent, the log and the output are those of the frames before it;
 -- after any other fault only the log is
@@ -48,6 +51,7 @@ WritesOutcomesBefore CrewGone opening before frames log old new = log ≡ log_of
 WritesOutcomesBefore Device opening before frames log old new = log ≡ log_of_session before frames
 WritesOutcomesBefore OutOfMemory opening before frames log old new = log ≡ log_of_session before frames
 WritesOutcomesBefore (Log fault) opening before frames log old new = log ≡ log_of_session before frames
+WritesOutcomesBefore TooMany opening before frames log old new = WritesOutcomes opening before frames log old new
 
 -- the input began with these frames, each an ask or a flush, and the fault came after them
 pub record ServesUntilFault (opening : Rows) (before log : List (Key × Call))

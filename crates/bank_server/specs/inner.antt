@@ -1,5 +1,7 @@
 pub mod Appends
 pub mod AskSteps
+pub mod ClientSteps
+pub mod ClientTurns
 pub mod FlushFaults
 pub mod FollowerTurns
 pub mod KeptPrimary

@@ -1,6 +1,9 @@
 //! The laws that tie the output to the sequencer's answers.
 ghost use Rattle.bank_server.specs.AskResults.{AnswersAreFinal};
 ghost use Rattle.bank_server.specs.Session.{ToldOutcomesStand};
+ghost use Rattle.std.specs.Prelude.{◌≡◌};
+
+use crate::bounds::{ASKS_BEFORE_FLUSH, READ_BYTES, UNREAD_BYTES};
 
 /// The sequencer's answer to an ask (a new number, a repeat, a mismatch or a full log) is its
 /// standing in the log for good, and so in the output, whatever is asked after it.
@@ -12,4 +15,11 @@ pub fn answers_are_final()
 /// number depends on the calls up to it alone.
 pub fn told_outcomes_stand()
     ensures { ToldOutcomesStand }
+{}
+
+/// The bounds of a client that is served beside others.
+pub fn client_bounds()
+    ensures asks { ASKS_BEFORE_FLUSH ≡ 65536 }
+    ensures unread { UNREAD_BYTES ≡ 4194304 }
+    ensures read { READ_BYTES ≡ 65536 }
 {}

@@ -7,7 +7,7 @@ ghost use Rattle.sb_frames.specs.declared.frame.Frame.TheVariants.{Outcome};
 ghost use Rattle.sb_frames.specs.Grammar.{spelling};
 ghost use Rattle.cown_board.specs.Board.{unfinished_of};
 ghost use Rattle.bank_server.specs.Execution.{HasReplies};
-ghost use Rattle.bank_server.specs.inner.SessionSteps.{ArePendingWithin};
+ghost use Rattle.bank_server.specs.Pending.{ArePendingWithin};
 ghost use Rattle.bank_server.specs.Session.{outcome_by};
 ghost use Rattle.bank_server.specs.Standing.{IsStandingWithin};
 

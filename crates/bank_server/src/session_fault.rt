@@ -34,10 +34,15 @@ pub enum SessionFault {
     /// kept.
     #[error("the log can't be kept: {0}")]
     Log(LogFault),
+    /// The client has [`crate::ASKS_BEFORE_FLUSH`] asks since its last flush, and sent one more. That
+    /// one has no number; all asks before were numbered, and the outcomes of those that a flush
+    /// followed were sent.
+    #[error("too many asks before a flush")]
+    TooMany,
 }
 
 impl SessionFault {
-    /// The number of the fault, from 1 to 6 in the order of the variants.
+    /// The number of the fault, from 1 to 7 in the order of the variants.
     pub fn number(&self) -> u8
         ensures { result ≡ session_fault_number self.now }
     {
@@ -48,6 +53,7 @@ impl SessionFault {
             SessionFault::Device => 4,
             SessionFault::OutOfMemory => 5,
             SessionFault::Log(_) => 6,
+            SessionFault::TooMany => 7,
         }
     }
 }

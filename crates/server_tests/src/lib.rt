@@ -7,6 +7,8 @@ mod agreements;
 #[cfg(test)]
 mod bank;
 #[cfg(test)]
+mod clients;
+#[cfg(test)]
 mod devices;
 #[cfg(test)]
 mod faults;

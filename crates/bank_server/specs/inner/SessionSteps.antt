@@ -1,19 +1,19 @@
 -- The state of a session, and the frames that led there.
-use Rattle.std.specs.Prelude.{◌≡◌, ℕ, if◌then◌else◌, Option, List, [], ◌∷◌, ◌++◌, map}
+use Rattle.std.specs.Prelude.{◌≡◌, ℕ, Option, List, ◌++◌, map}
 use Rattle.std.specs.Io.KnownBytes.{Appends}
-use Rattle.std.specs.List.{All, flat_map, list_any}
+use Rattle.std.specs.List.{All, flat_map}
 use Rattle.sb_rows.specs.Rows.{Rows}
 use Rattle.sb_calls.specs.declared.ask.Key.{Key}
 use Rattle.sb_calls.specs.declared.call.Call.{Call}
 use Rattle.sb_frames.specs.Grammar.{spelling}
 use Rattle.sb_frames.specs.declared.frame.Frame as frames
 use Rattle.bank_server.specs.SessionResults.{IsFaultAt}
-use Rattle.bank_server.specs.Session.{IsFromClient, is_flush, asks_in, log_of_session, outcomes_of}
-use Rattle.bank_server.specs.Standing.{IsStandingWithin, standing_of}
+use Rattle.bank_server.specs.Pending.{pending_ask, unflushed_asks}
+use Rattle.bank_server.specs.Session.{IsFromClient, log_of_session, outcomes_of}
 use Rattle.bank_server.specs.declared.buffers.SessionBuffers.{SessionBuffers}
 use Rattle.bank_server.specs.declared.pending.PendingAsk.{PendingAsk}
 use Rattle.bank_server.specs.declared.session_fault.SessionFault.{SessionFault}
-use Rattle.bank_server.specs.declared.session_fault.SessionFault.TheVariants.{Frame, Unexpected, CrewGone, Device, OutOfMemory, Log}
+use Rattle.bank_server.specs.declared.session_fault.SessionFault.TheVariants.{Frame, Unexpected, CrewGone, Device, OutOfMemory, Log, TooMany}
 
 -- the log so far, the asks that wait for a flush, and what the writer has
 pub record SessionState : Type 0 where
@@ -24,19 +24,6 @@ pub record SessionState : Type 0 where
 -- the state of a session with this log, these pending asks, and this output
 abbrev pub session_state_of : List (Key × Call) → SessionBuffers → Option (List ℕ) → SessionState
 session_state_of log buffers written = record { log = log; pending = buffers.pending.items; written = written }
-
--- the asks that no flush follows
-abbrev pub unflushed_asks : List frames.Frame → List (Key × Call)
-unflushed_asks [] = []
-unflushed_asks (frame ∷ frames) = if list_any is_flush frames then unflushed_asks frames else asks_in (frame ∷ frames)
-
--- a pending ask, with its standing in a log
-abbrev pub pending_ask : List (Key × Call) → Key × Call → PendingAsk
-pending_ask log ask = record { key = ask.0; standing = standing_of log ask }
-
--- the standings of the pending asks are in a log of this many calls
-abbrev pub ArePendingWithin : ℕ → List PendingAsk → Type 0
-ArePendingWithin calls pending = All (λ ask. IsStandingWithin calls ask.standing) pending
 
 -- these frames led a session there, from this log, and from this content of the writer
 pub record Reaches (opening : Rows) (before : List (Key × Call)) (start : Option (List ℕ)) (frames : List frames.Frame)
@@ -68,6 +55,7 @@ IsStateAfterFault CrewGone there now = now.log ≡ there.log
 IsStateAfterFault Device there now = now.log ≡ there.log
 IsStateAfterFault OutOfMemory there now = now.log ≡ there.log
 IsStateAfterFault (Log fault) there now = now.log ≡ there.log
+IsStateAfterFault TooMany there now = now ≡ there
 
 -- some of the unread bytes spell frames that led somewhere, and the fault came there, whatever
 -- bytes follow
@@ -87,3 +75,4 @@ RefusesFrame frame CrewGone old new = new.log ≡ old.log
 RefusesFrame frame Device old new = new.log ≡ old.log
 RefusesFrame frame OutOfMemory old new = new.log ≡ old.log
 RefusesFrame frame (Log fault) old new = new.log ≡ old.log
+RefusesFrame frame TooMany old new = ⊥

@@ -1,6 +1,7 @@
 use Rattle.std.proofs.Common.{◌≡◌, false, length}
 use Rattle.cown_workers.specs.Draining.{HasNoneOut}
-use Rattle.bank_server.specs.inner.SessionSteps.{ArePendingWithin, HandlesBytes, session_state_of}
+use Rattle.bank_server.specs.Pending.{ArePendingWithin}
+use Rattle.bank_server.specs.inner.SessionSteps.{HandlesBytes, session_state_of}
 use Rattle.bank_server.specs.Primary.{PreservesBank, opening_rows_of}
 use Rattle.bank_server.proofs.buffers.handle_frames.Given as goal
 

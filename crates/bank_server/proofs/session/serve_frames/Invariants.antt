@@ -2,7 +2,8 @@ use Rattle.std.proofs.Common.{◌≡◌, ℕ, List, false, length}
 use Rattle.std.specs.Io.KnownBytes.{Consumes}
 use Rattle.sb_frames.specs.Streaming.{IsShort}
 use Rattle.cown_workers.specs.Draining.{HasNoneOut}
-use Rattle.bank_server.specs.inner.SessionSteps.{ArePendingWithin, session_state_of}
+use Rattle.bank_server.specs.Pending.{ArePendingWithin}
+use Rattle.bank_server.specs.inner.SessionSteps.{session_state_of}
 use Rattle.bank_server.specs.Primary.{PreservesBank, opening_rows_of}
 use Rattle.bank_server.proofs.Sessions.{ReadsTo}
 use Rattle.bank_server.proofs.session.serve_frames.Given as goal

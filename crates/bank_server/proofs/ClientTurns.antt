@@ -1,0 +1,434 @@
+-- What is heard of one client, piece after piece, and what it is told.
+use Rattle.std.proofs.Common.{arith, ◌≡◌, ℕ, ◌+◌, ◌<◌, true, false, true≢false, Option, Some, None, is_some, Ok, Err, List, [], ◌∷◌, ◌++◌, drop, length, map, take, refl, sym, ap, subst, ◌∙◌, append_assoc, append-nil, inl, inr}
+use Rattle.std.specs.Prelude.{◌≢◌, ◌⊎◌}
+use Rattle.std.specs.List.{All, Contains, drop-map, flat_map, take-map}
+use Rattle.std.proofs.Math.Seq.{drop-append_seam, take-append_seam}
+use Rattle.std.proofs.lemmas.Grind.{flat_map-append}
+use Rattle.std.proofs.lemmas.List.{length-append, length-map, nil_from_length}
+use Rattle.std.proofs.lemmas.List.Elements.{All-cons, All-contains, All-contains_itself, All-head, All-nil, All-push, All-tail, Contains-append_left, Contains-append_right}
+use Rattle.sb_rows.specs.Rows.{Rows}
+use Rattle.sb_calls.specs.declared.ask.Key.{Key}
+use Rattle.sb_calls.specs.declared.call.Call.{Call}
+use Rattle.sb_calls.specs.Log.{replies_to}
+use Rattle.sb_frames.specs.Grammar.{spelling}
+use Rattle.sb_frames.specs.Decoding.{decode_result}
+use Rattle.sb_frames.specs.Streaming.{IsShort, StreamState}
+use Rattle.sb_frames.specs.declared.fault.FrameFault.{FrameFault}
+use Rattle.sb_frames.specs.declared.fault.FrameFault.TheVariants.{Short}
+use Rattle.sb_frames.specs.declared.frame.Frame as wire
+use Rattle.sb_sequencer.specs.Numbering.{calls_of, first_asks}
+use Rattle.bank_server.specs.Clients.{ClientOf, End, HadManyUnread, HasBytes, IsHeard, IsLeft, IsServed, PastOf, Piece, bytes_of}
+use Rattle.bank_server.specs.Pending.{pending_ask, unflushed_asks}
+use Rattle.bank_server.specs.Session.{asks_in, flushed_asks, outcome_by, outcome_of}
+use Rattle.bank_server.specs.SessionResults.{IsFaultAt}
+use Rattle.bank_server.specs.declared.bounds.TheConstants.{ASKS_BEFORE_FLUSH, UNREAD_BYTES}
+use Rattle.bank_server.specs.declared.pending.PendingAsk.{PendingAsk}
+use Rattle.bank_server.specs.declared.session_fault.SessionFault.{SessionFault}
+use Rattle.bank_server.specs.declared.session_fault.SessionFault.TheVariants.{Frame, Unexpected, CrewGone, Device, OutOfMemory, Log, TooMany}
+use Rattle.bank_server.specs.inner.ClientSteps.{ClientState, HandlesClient, ReachesClient, StopsClient}
+use Rattle.bank_server.specs.inner.ClientTurns.{HearsClient, IsServing, TellsClient, ending_of, state_of_client}
+use Rattle.bank_server.proofs.FrameSteps.{bad_at}
+use Rattle.bank_server.proofs.SessionSteps.{spelled_of}
+
+-- ---- pieces
+
+-- once an end is among pieces, nothing more counts
+ends_or_goes_on : (pieces : List Piece) → All HasBytes pieces ⊎ ((more : List Piece) → bytes_of (pieces ++ more) ≡ bytes_of pieces)
+ends_or_goes_on [] = inl (All-nil HasBytes)
+ends_or_goes_on (None ∷ pieces) = inr (λ more. refl)
+ends_or_goes_on (Some [] ∷ pieces) = inr (λ more. refl)
+ends_or_goes_on (Some (byte ∷ bytes) ∷ pieces) = by (ends_or_goes_on pieces)
+  where
+    by : All HasBytes pieces ⊎ ((more : List Piece) → bytes_of (pieces ++ more) ≡ bytes_of pieces)
+        → All HasBytes (Some (byte ∷ bytes) ∷ pieces)
+        ⊎ ((more : List Piece) → bytes_of ((Some (byte ∷ bytes) ∷ pieces) ++ more) ≡ bytes_of (Some (byte ∷ bytes) ∷ pieces))
+    by (inl all) = inl (All-cons HasBytes (Some (byte ∷ bytes)) pieces tt all)
+    by (inr over) = inr (λ more. ap (λ (l : List ℕ). (byte ∷ bytes) ++ l) (over more))
+
+over_after : (pieces more : List Piece) (end : Piece) → ¬ HasBytes end → Contains pieces end → bytes_of (pieces ++ more) ≡ bytes_of pieces
+over_after pieces more end none there = by (ends_or_goes_on pieces)
+  where
+    by : All HasBytes pieces ⊎ ((more : List Piece) → bytes_of (pieces ++ more) ≡ bytes_of pieces) → bytes_of (pieces ++ more) ≡ bytes_of pieces
+    by (inl all) = absurd (none (All-contains HasBytes pieces end all there))
+    by (inr over) = over more
+
+-- one more piece is more bytes, or none
+bytes_on : (pieces more : List Piece) → (extra : List ℕ) × (bytes_of (pieces ++ more) ≡ bytes_of pieces ++ extra)
+bytes_on [] more = (bytes_of more, refl)
+bytes_on (None ∷ pieces) more = ([], refl)
+bytes_on (Some [] ∷ pieces) more = ([], refl)
+bytes_on (Some (byte ∷ bytes) ∷ pieces) more =
+    let rest = bytes_on pieces more in
+    (rest.0, ap (λ (l : List ℕ). (byte ∷ bytes) ++ l) rest.1 ∙ sym (append_assoc (byte ∷ bytes) (bytes_of pieces) rest.0))
+
+-- of a client that goes on
+bytes_then : (pieces more : List Piece) → All HasBytes pieces → bytes_of (pieces ++ more) ≡ bytes_of pieces ++ bytes_of more
+bytes_then [] more all = refl
+bytes_then (None ∷ pieces) more all = absurd (All-head HasBytes None pieces all)
+bytes_then (Some [] ∷ pieces) more all = absurd (All-head HasBytes (Some []) pieces all)
+bytes_then (Some (byte ∷ bytes) ∷ pieces) more all =
+    ap (λ (l : List ℕ). (byte ∷ bytes) ++ l) (bytes_then pieces more (All-tail HasBytes (Some (byte ∷ bytes)) pieces all))
+    ∙ sym (append_assoc (byte ∷ bytes) (bytes_of pieces) (bytes_of more))
+
+pub has_bytes : (bytes : List ℕ) → 0 < length bytes → HasBytes (Some bytes)
+has_bytes [] lt = absurd (omega (arith, lt))
+has_bytes (byte ∷ bytes) lt = tt
+
+one_piece : (bytes : List ℕ) → HasBytes (Some bytes) → bytes_of (Some bytes ∷ []) ≡ bytes
+one_piece [] has = absurd has
+one_piece (byte ∷ bytes) has = append-nil (byte ∷ bytes)
+
+ends_there : (pieces : List Piece) (piece : Piece) → Contains (pieces ++ piece ∷ []) piece
+ends_there pieces piece = Contains-append_right pieces (piece ∷ []) piece (All-head (Contains (piece ∷ [])) piece [] (All-contains_itself (piece ∷ [])))
+
+-- ---- what is heard
+
+abbrev IsHeardBy : Option End → PastOf → ClientOf → Type 0
+IsHeardBy ending past client = (rest : List ℕ) × (bytes_of past.pieces ≡ flat_map spelling past.frames ++ rest) × IsLeft ending past client rest
+
+heard_by : (ending : Option End) (past : PastOf) (client : ClientOf) → client.ending ≡ ending → IsHeard past client → IsHeardBy ending past client
+heard_by ending past client same heard =
+    (heard.rest, heard.bytes_are, subst (λ e. IsLeft e past client heard.rest) same heard.left)
+
+heard_from : (ending : Option End) (past : PastOf) (client : ClientOf) → client.ending ≡ ending → IsHeardBy ending past client → IsHeard past client
+heard_from ending past client same heard =
+    record { rest = heard.0; bytes_are = heard.1; left = subst (λ e. IsLeft e past client heard.0) (sym same) heard.2 }
+
+-- a client that ended isn't heard
+deaf_by : (end : End) (past : PastOf) (piece : Piece) (client : ClientOf) → IsHeardBy (Some end) past client
+    → IsHeardBy (Some end) (record past { pieces = past.pieces ++ piece ∷ [] }) client
+deaf_by (Ok done) past piece client (rest, are, (all, there)) =
+    (rest, over_after past.pieces (piece ∷ []) (Some []) (λ h. h) there ∙ are, (all, Contains-append_left past.pieces (piece ∷ []) (Some []) there))
+deaf_by (Err (Frame fault)) past piece client (rest, are, (at, inr there)) = (
+  rest,
+  over_after past.pieces (piece ∷ []) (Some []) (λ h. h) there ∙ are,
+  (at, inr (Contains-append_left past.pieces (piece ∷ []) (Some []) there)),
+)
+deaf_by (Err (Frame fault)) past piece client (rest, are, (at, inl long)) =
+    let on = bytes_on past.pieces (piece ∷ []) in (
+      rest ++ on.0,
+      on.1 ∙ ap (λ (l : List ℕ). l ++ on.0) are
+          ∙ append_assoc (flat_map spelling past.frames) rest on.0,
+      (bad_at rest on.0 fault at.0 long, inl long),
+    )
+deaf_by (Err Unexpected) past piece client (rest, are, (frame, behind, valid, apart, is)) =
+    let on = bytes_on past.pieces (piece ∷ []) in (
+      rest ++ on.0,
+      on.1 ∙ ap (λ (l : List ℕ). l ++ on.0) are ∙ append_assoc (flat_map spelling past.frames) rest on.0,
+      (frame, behind ++ on.0, valid, apart, ap (λ (l : List ℕ). l ++ on.0) is ∙ append_assoc (spelling frame) behind on.0),
+    )
+deaf_by (Err TooMany) past piece client (rest, are, ((frame, behind, valid, one, is), many)) =
+    let on = bytes_on past.pieces (piece ∷ []) in (
+      rest ++ on.0,
+      on.1 ∙ ap (λ (l : List ℕ). l ++ on.0) are ∙ append_assoc (flat_map spelling past.frames) rest on.0,
+      ((frame, behind ++ on.0, valid, one, ap (λ (l : List ℕ). l ++ on.0) is ∙ append_assoc (spelling frame) behind on.0), many),
+    )
+deaf_by (Err Device) past piece client (rest, are, why) =
+    let on = bytes_on past.pieces (piece ∷ []) in
+    (rest ++ on.0, on.1 ∙ ap (λ (l : List ℕ). l ++ on.0) are ∙ append_assoc (flat_map spelling past.frames) rest on.0, still why)
+  where
+    still : Contains past.pieces None ⊎ HadManyUnread past.sent client.outcomes
+        → Contains (past.pieces ++ piece ∷ []) None ⊎ HadManyUnread past.sent client.outcomes
+    still (inl there) = inl (Contains-append_left past.pieces (piece ∷ []) None there)
+    still (inr many) = inr many
+deaf_by (Err CrewGone) past piece client (rest, are, is) = absurd is
+deaf_by (Err OutOfMemory) past piece client (rest, are, is) = absurd is
+deaf_by (Err (Log fault)) past piece client (rest, are, is) = absurd is
+
+-- nothing more was taken
+nothing_taken : (opening : Rows) (log : List (Key × Call)) (old new : ClientOf) (piece : Piece)
+    → state_of_client log new ≡ state_of_client log old
+    → ((past : PastOf) → IsHeard past old → IsHeard (record past { pieces = past.pieces ++ piece ∷ [] }) new)
+    → HearsClient opening log old piece log new
+nothing_taken opening log old new piece same heard asks past log_is serving = (
+  [],
+  log_is ∙ ap first_asks (sym (append-nil asks)),
+  subst (λ (a : List (Key × Call)). IsServing opening a log (record { pieces = past.pieces ++ piece ∷ []; frames = past.frames ++ []; sent = past.sent }) new)
+      (sym (append-nil asks))
+      (subst (λ (f : List wire.Frame). IsServing opening asks log (record { pieces = past.pieces ++ piece ∷ []; frames = f; sent = past.sent }) new)
+      (sym (append-nil past.frames))
+      (record {
+        reached = subst (ReachesClient opening asks past.sent past.frames) (sym same) serving.reached;
+        heard = heard past serving.heard;
+      })),
+)
+
+pub hears_deaf : (opening : Rows) (log : List (Key × Call)) (client : ClientOf) (piece : Piece) → is_some client.ending ≡ true
+    → HearsClient opening log client piece log client
+hears_deaf opening log client piece over = nothing_taken opening log client client piece refl (λ past heard. by client.ending refl over past heard)
+  where
+    by : (ending : Option End) → client.ending ≡ ending → is_some ending ≡ true → (past : PastOf) → IsHeard past client
+        → IsHeard (record past { pieces = past.pieces ++ piece ∷ [] }) client
+    by None same is past heard = absurd (true≢false (sym is))
+    by (Some end) same is past heard =
+        heard_from (Some end) (record past { pieces = past.pieces ++ piece ∷ [] }) client same
+        (deaf_by end past piece client (heard_by (Some end) past client same heard))
+
+pub none_now : (ending : Option End) → is_some ending ≡ false → ending ≡ None
+none_now None is = refl
+none_now (Some end) is = absurd (true≢false is)
+
+pub none_on : (ending : Option End) → ending ≡ None → is_some ending ≡ false
+none_on ending same = ap is_some same
+
+-- the end of a client, behind a whole frame
+hears_end : (opening : Rows) (log : List (Key × Call)) (old new : ClientOf) → is_some old.ending ≡ false → old.stream.unread ≡ []
+    → new ≡ record old { ending = Some (Ok tt) } → HearsClient opening log old (Some []) log new
+hears_end opening log old new on all same = nothing_taken opening log old new (Some []) (ap (state_of_client log) same)
+    (λ past heard.
+    let was = heard_by None past old (none_now old.ending on) heard in
+    heard_from (Some (Ok tt)) (record past { pieces = past.pieces ++ Some [] ∷ [] }) new (ap (λ (c : ClientOf). c.ending) same) (
+      was.0,
+      bytes_then past.pieces (Some [] ∷ []) was.2.0 ∙ append-nil (bytes_of past.pieces) ∙ was.1,
+      (was.2.1 ∙ all, ends_there past.pieces (Some [])),
+    ))
+
+-- the end within a frame
+hears_short : (opening : Rows) (log : List (Key × Call)) (old new : ClientOf) → is_some old.ending ≡ false → old.stream.unread ≢ []
+    → new ≡ record old { ending = Some (Err (Frame Short)) } → HearsClient opening log old (Some []) log new
+hears_short opening log old new on some same = nothing_taken opening log old new (Some []) (ap (state_of_client log) same)
+    (λ past heard.
+    let was = heard_by None past old (none_now old.ending on) heard in
+    heard_from (Some (Err (Frame Short))) (record past { pieces = past.pieces ++ Some [] ∷ [] }) new (ap (λ (c : ClientOf). c.ending) same) (
+      was.0,
+      bytes_then past.pieces (Some [] ∷ []) was.2.0 ∙ append-nil (bytes_of past.pieces) ∙ was.1,
+      ((ap decode_result was.2.1 ∙ was.2.2.1, λ none. some (sym was.2.1 ∙ none)), inr (ends_there past.pieces (Some []))),
+    ))
+
+-- either end
+pub hears_ending : (opening : Rows) (log : List (Key × Call)) (old new : ClientOf) → is_some old.ending ≡ false
+    → new ≡ record old { ending = Some (ending_of old.stream.unread) } → HearsClient opening log old (Some []) log new
+hears_ending opening log old new on same = by old.stream.unread refl
+  where
+    not_empty : {byte : ℕ} {bytes : List ℕ} → (byte ∷ bytes) ≡ [] → ⊥
+    not_empty h = cc
+
+    by : (unread : List ℕ) → old.stream.unread ≡ unread → HearsClient opening log old (Some []) log new
+    by [] e = hears_end opening log old new on e (same ∙ ap (λ u. record old { ending = Some (ending_of u) }) e)
+    by (byte ∷ bytes) e = hears_short opening log old new on (λ none. not_empty (sym e ∙ none)) (same ∙ ap (λ u. record old { ending = Some (ending_of u) }) e)
+
+-- the connection failed
+pub hears_failure : (opening : Rows) (log : List (Key × Call)) (old new : ClientOf) → is_some old.ending ≡ false
+    → new ≡ record old { ending = Some (Err Device) } → HearsClient opening log old None log new
+hears_failure opening log old new on same = nothing_taken opening log old new None (ap (state_of_client log) same)
+    (λ past heard.
+    let was = heard_by None past old (none_now old.ending on) heard in
+    heard_from (Some (Err Device)) (record past { pieces = past.pieces ++ None ∷ [] }) new (ap (λ (c : ClientOf). c.ending) same) (
+      was.0,
+      bytes_then past.pieces (None ∷ []) was.2.0 ∙ append-nil (bytes_of past.pieces) ∙ was.1,
+      inl (ends_there past.pieces None),
+    ))
+
+-- the bytes of two pieces
+further : (bytes heard unread left : List ℕ) (wires more : List wire.Frame) → heard ≡ flat_map spelling wires ++ unread
+    → unread ++ bytes ≡ flat_map spelling more ++ left → heard ++ bytes ≡ flat_map spelling (wires ++ more) ++ left
+further bytes heard unread left wires more heard_are read =
+    ap (λ (l : List ℕ). l ++ bytes) heard_are ∙ append_assoc (flat_map spelling wires) unread bytes
+    ∙ ap (λ (l : List ℕ). flat_map spelling wires ++ l) read ∙ sym (append_assoc (flat_map spelling wires) (flat_map spelling more) left)
+    ∙ ap (λ (l : List ℕ). l ++ left) (sym (flat_map-append spelling wires more))
+
+-- its bytes were taken as far as they are handled, and the rest is left
+takes_bytes : (opening : Rows) (old_log : List (Key × Call)) (old : ClientOf) (bytes : List ℕ) (new_log : List (Key × Call)) (new : ClientOf)
+    (there : ClientState) (rest : List ℕ) → is_some old.ending ≡ false → HasBytes (Some bytes)
+    → HandlesClient opening (state_of_client old_log old) (old.stream.unread ++ bytes) there rest
+    → state_of_client new_log new ≡ there
+    → ((past : PastOf) (asks : List (Key × Call)) → All HasBytes past.pieces
+    → ReachesClient opening asks past.sent past.frames there → IsLeft new.ending past new rest)
+    → HearsClient opening old_log old (Some bytes) new_log new
+takes_bytes opening old_log old bytes new_log new there rest on has handles same left asks past log_is serving =
+    let was = heard_by None past old (none_now old.ending on) serving.heard in
+    let reached : ReachesClient opening (asks ++ asks_in handles.more) past.sent (past.frames ++ handles.more) there =
+    handles.leads asks past.sent past.frames serving.reached in
+    let now : PastOf = record { pieces = past.pieces ++ Some bytes ∷ []; frames = past.frames ++ handles.more; sent = past.sent } in (
+      handles.more,
+      ap (λ (s : ClientState). s.log) same ∙ reached.log_is,
+      record {
+        reached = subst (ReachesClient opening (asks ++ asks_in handles.more) past.sent (past.frames ++ handles.more)) (sym same) reached;
+        heard = record {
+          rest = rest;
+          bytes_are = bytes_then past.pieces (Some bytes ∷ []) was.2.0
+              ∙ ap (λ (l : List ℕ). bytes_of past.pieces ++ l) (one_piece bytes has)
+              ∙ further bytes (bytes_of past.pieces) old.stream.unread rest past.frames handles.more
+              (was.1 ∙ ap (λ (l : List ℕ). flat_map spelling past.frames ++ l) was.2.1) handles.read;
+          left = left now (asks ++ asks_in handles.more) (All-push HasBytes past.pieces (Some bytes) was.2.0 has) reached;
+        };
+      },
+    )
+
+pub hears_well : (opening : Rows) (old_log : List (Key × Call)) (old : ClientOf) (bytes : List ℕ) (new_log : List (Key × Call)) (new : ClientOf)
+    → is_some old.ending ≡ false → HasBytes (Some bytes) → new.ending ≡ old.ending → IsShort new.stream
+    → HandlesClient opening (state_of_client old_log old) (old.stream.unread ++ bytes) (state_of_client new_log new) new.stream.unread
+    → HearsClient opening old_log old (Some bytes) new_log new
+hears_well opening old_log old bytes new_log new on has same short handles =
+    takes_bytes opening old_log old bytes new_log new (state_of_client new_log new) new.stream.unread on has handles refl
+    (λ past asks all reached. subst (λ e. IsLeft e past new new.stream.unread) (sym (same ∙ none_now old.ending on)) (all, refl, short))
+
+hears_bad : (opening : Rows) (old_log : List (Key × Call)) (old : ClientOf) (bytes : List ℕ) (new_log : List (Key × Call)) (new : ClientOf) (fault : FrameFault)
+    → is_some old.ending ≡ false → HasBytes (Some bytes) → new.ending ≡ Some (Err (Frame fault))
+    → StopsClient opening (state_of_client old_log old) (old.stream.unread ++ bytes) (Frame fault) (state_of_client new_log new)
+    → HearsClient opening old_log old (Some bytes) new_log new
+hears_bad opening old_log old bytes new_log new fault on has is stops =
+    takes_bytes opening old_log old bytes new_log new stops.there stops.rest on has stops.handles stops.left.0
+    (λ past asks all reached. subst (λ e. IsLeft e past new stops.rest) (sym is)
+    (subst (IsFaultAt (Frame fault)) (append-nil stops.rest) (stops.at []), inl stops.left.1))
+
+hears_unexpected : (opening : Rows) (old_log : List (Key × Call)) (old : ClientOf) (bytes : List ℕ) (new_log : List (Key × Call)) (new : ClientOf)
+    → is_some old.ending ≡ false → HasBytes (Some bytes) → new.ending ≡ Some (Err Unexpected)
+    → StopsClient opening (state_of_client old_log old) (old.stream.unread ++ bytes) Unexpected (state_of_client new_log new)
+    → HearsClient opening old_log old (Some bytes) new_log new
+hears_unexpected opening old_log old bytes new_log new on has is stops =
+    takes_bytes opening old_log old bytes new_log new stops.there stops.rest on has stops.handles stops.left
+    (λ past asks all reached. subst (λ e. IsLeft e past new stops.rest) (sym is) (subst (IsFaultAt Unexpected) (append-nil stops.rest) (stops.at [])))
+
+hears_many : (opening : Rows) (old_log : List (Key × Call)) (old : ClientOf) (bytes : List ℕ) (new_log : List (Key × Call)) (new : ClientOf)
+    → is_some old.ending ≡ false → HasBytes (Some bytes) → new.ending ≡ Some (Err TooMany)
+    → StopsClient opening (state_of_client old_log old) (old.stream.unread ++ bytes) TooMany (state_of_client new_log new)
+    → HearsClient opening old_log old (Some bytes) new_log new
+hears_many opening old_log old bytes new_log new on has is stops =
+    takes_bytes opening old_log old bytes new_log new stops.there stops.rest on has stops.handles stops.left.0
+    (λ past asks all reached. subst (λ e. IsLeft e past new stops.rest) (sym is)
+    (subst (IsFaultAt TooMany) (append-nil stops.rest) (stops.at []), many past asks reached))
+  where
+    many : (past : PastOf) (asks : List (Key × Call)) → ReachesClient opening asks past.sent past.frames stops.there
+        → length (unflushed_asks past.frames) ≡ ASKS_BEFORE_FLUSH
+    many past asks reached =
+        let later = unflushed_asks past.frames in
+        let whole : length stops.there.pending ≡ length reached.waiting + length later =
+        ap length reached.pending_are ∙ length-map (reached.waiting ++ later) (pending_ask stops.there.log) ∙ length-append reached.waiting later in
+        omega (arith, whole, reached.due_is, stops.left.1)
+
+-- its bytes were taken up to a fault of its own
+pub hears_fault : (opening : Rows) (old_log : List (Key × Call)) (old : ClientOf) (bytes : List ℕ) (new_log : List (Key × Call)) (new : ClientOf)
+    (fault : SessionFault) → is_some old.ending ≡ false → HasBytes (Some bytes) → new.ending ≡ Some (Err fault) → fault ≢ OutOfMemory
+    → StopsClient opening (state_of_client old_log old) (old.stream.unread ++ bytes) fault (state_of_client new_log new)
+    → HearsClient opening old_log old (Some bytes) new_log new
+hears_fault opening old_log old bytes new_log new (Frame fault) on has is other stops = hears_bad opening old_log old bytes new_log new fault on has is stops
+hears_fault opening old_log old bytes new_log new Unexpected on has is other stops = hears_unexpected opening old_log old bytes new_log new on has is stops
+hears_fault opening old_log old bytes new_log new CrewGone on has is other stops = absurd stops.left
+hears_fault opening old_log old bytes new_log new Device on has is other stops = absurd stops.left
+hears_fault opening old_log old bytes new_log new OutOfMemory on has is other stops = absurd (other refl)
+hears_fault opening old_log old bytes new_log new (Log fault) on has is other stops = absurd stops.left
+hears_fault opening old_log old bytes new_log new TooMany on has is other stops = hears_many opening old_log old bytes new_log new on has is stops
+
+-- ---- what is told
+
+-- the outcomes of all that was due were given
+tells_due : (opening : Rows) (asks : List (Key × Call)) (sent : List ℕ) (wires : List wire.Frame) (old new : ClientState) (bytes : List ℕ)
+    → ReachesClient opening asks sent wires old → new.log ≡ old.log → new.pending ≡ drop old.due old.pending → new.due ≡ 0
+    → bytes ≡ flat_map (λ (w : PendingAsk). flat_map spelling (outcome_by (replies_to opening (calls_of old.log)) w.key w.standing)) (take old.due old.pending)
+    → new.outcomes ≡ old.outcomes ++ bytes → ReachesClient opening asks sent wires new
+tells_due opening asks sent wires old new bytes came log pending due told_now appended = record {
+  clients = came.clients;
+  among = came.among;
+  log_is = log ∙ came.log_is;
+  told = came.told ++ came.waiting;
+  waiting = [];
+  flushed_are = came.flushed_are ∙ sym (append-nil (came.told ++ came.waiting));
+  pending_are = pending ∙ ap (drop old.due) came.pending_are ∙ drop-map (pending_ask old.log) old.due (came.waiting ++ unflushed_asks wires)
+      ∙ ap (map (pending_ask old.log)) (ap (λ n. drop n (came.waiting ++ unflushed_asks wires)) came.due_is
+      ∙ drop-append_seam came.waiting (unflushed_asks wires))
+      ∙ ap (λ l. map (pending_ask l) (unflushed_asks wires)) (sym log);
+  due_is = due;
+  given = ap (λ (o : List ℕ). sent ++ o) appended ∙ sym (append_assoc sent old.outcomes bytes) ∙ ap (λ (o : List ℕ). o ++ bytes) came.given
+      ∙ sym all_are ∙ ap (λ (l : List (Key × Call)). flat_map spelling (flat_map (outcome_of opening l) (came.told ++ came.waiting))) (sym log);
+}
+  where
+    first : take old.due old.pending ≡ map (pending_ask old.log) came.waiting
+    first = ap (take old.due) came.pending_are ∙ take-map (pending_ask old.log) old.due (came.waiting ++ unflushed_asks wires)
+        ∙ ap (map (pending_ask old.log)) (ap (λ n. take n (came.waiting ++ unflushed_asks wires)) came.due_is
+        ∙ take-append_seam came.waiting (unflushed_asks wires))
+
+    bytes_are : bytes ≡ flat_map spelling (flat_map (outcome_of opening old.log) came.waiting)
+    bytes_are = told_now
+        ∙ ap (flat_map (λ (w : PendingAsk). flat_map spelling (outcome_by (replies_to opening (calls_of old.log)) w.key w.standing))) first
+        ∙ spelled_of opening old.log came.waiting
+
+    all_are : flat_map spelling (flat_map (outcome_of opening old.log) (came.told ++ came.waiting))
+        ≡ flat_map spelling (flat_map (outcome_of opening old.log) came.told) ++ bytes
+    all_are = ap (flat_map spelling) (flat_map-append (outcome_of opening old.log) came.told came.waiting)
+        ∙ flat_map-append spelling (flat_map (outcome_of opening old.log) came.told) (flat_map (outcome_of opening old.log) came.waiting)
+        ∙ ap (λ (l : List ℕ). flat_map spelling (flat_map (outcome_of opening old.log) came.told) ++ l) (sym bytes_are)
+
+-- what was heard stays heard when outcomes are given
+heard_told : (ending : Option End) (past : PastOf) (old new : ClientOf) (bytes : List ℕ) → new.stream ≡ old.stream → new.outcomes ≡ old.outcomes ++ bytes
+    → IsHeardBy ending past old → IsHeardBy ending past new
+heard_told None past old new bytes stream given (rest, are, (all, unread, short)) =
+    (rest, are, (all, unread ∙ ap (λ (s : StreamState). s.unread) (sym stream), subst IsShort (sym stream) short))
+heard_told (Some (Ok done)) past old new bytes stream given is = is
+heard_told (Some (Err (Frame fault))) past old new bytes stream given is = is
+heard_told (Some (Err Unexpected)) past old new bytes stream given is = is
+heard_told (Some (Err CrewGone)) past old new bytes stream given is = is
+heard_told (Some (Err OutOfMemory)) past old new bytes stream given is = is
+heard_told (Some (Err (Log fault))) past old new bytes stream given is = is
+heard_told (Some (Err TooMany)) past old new bytes stream given is = is
+heard_told (Some (Err Device)) past old new bytes stream given (rest, are, inl there) = (rest, are, inl there)
+heard_told (Some (Err Device)) past old new bytes stream given (rest, are, inr (before, since, sent, many)) = (
+  rest,
+  are,
+  inr (
+    before,
+    since,
+    sent,
+    subst (λ (o : List ℕ). UNREAD_BYTES < length (since ++ o)) (sym given)
+        (subst (λ (o : List ℕ). UNREAD_BYTES < length o) (append_assoc since old.outcomes bytes) longer),
+  ),
+)
+  where
+    longer : UNREAD_BYTES < length ((since ++ old.outcomes) ++ bytes)
+    longer = omega (arith, many, length-append (since ++ old.outcomes) bytes)
+
+-- a client ends in a turn if too many of its outcomes are unread
+abbrev pub EndsByUnread : ClientOf → ClientOf → Type 0
+EndsByUnread old new = (old.ending ≡ None) × (new.ending ≡ Some (Err Device)) × (UNREAD_BYTES < length new.outcomes)
+
+heard_after : (past : PastOf) (old new : ClientOf) (bytes : List ℕ) → new.stream ≡ old.stream → new.outcomes ≡ old.outcomes ++ bytes
+    → (new.ending ≡ old.ending) ⊎ EndsByUnread old new → IsHeard past old → IsHeard past new
+heard_after past old new bytes stream given (inl same) heard =
+    heard_from old.ending past new same (heard_told old.ending past old new bytes stream given (heard_by old.ending past old refl heard))
+heard_after past old new bytes stream given (inr (on, is, many)) heard =
+    let was = heard_by None past old on heard in
+    heard_from (Some (Err Device)) past new is (was.0, was.1, inr (past.sent, [], sym (append-nil past.sent), many))
+
+pub tells_client : (opening : Rows) (log : List (Key × Call)) (old new : ClientOf) (bytes : List ℕ) → new.stream ≡ old.stream
+    → new.pending ≡ drop old.due old.pending → new.due ≡ 0
+    → bytes ≡ flat_map (λ (w : PendingAsk). flat_map spelling (outcome_by (replies_to opening (calls_of log)) w.key w.standing)) (take old.due old.pending)
+    → new.outcomes ≡ old.outcomes ++ bytes → (new.ending ≡ old.ending) ⊎ EndsByUnread old new → TellsClient opening log old new
+tells_client opening log old new bytes stream pending due told_now appended ending asks past serving = record {
+  reached = tells_due opening asks past.sent past.frames (state_of_client log old) (state_of_client log new) bytes serving.reached refl pending due told_now
+      appended;
+  heard = heard_after past old new bytes stream appended ending serving.heard;
+}
+
+-- ---- between turns
+
+-- a client that is served is served within a turn, and nothing is due to it
+pub serving_from : (opening : Rows) (asks log : List (Key × Call)) (past : PastOf) (client : ClientOf) → log ≡ first_asks asks
+    → IsServed opening asks log past client → IsServing opening asks log past client
+serving_from opening asks log past client log_is served = record {
+  reached = record {
+    clients = served.clients;
+    among = served.among;
+    log_is = log_is;
+    told = flushed_asks past.frames;
+    waiting = [];
+    flushed_are = sym (append-nil (flushed_asks past.frames));
+    pending_are = served.waiting;
+    due_is = served.none_due;
+    given = served.given;
+  };
+  heard = served.heard;
+}
+
+pub served_from : (opening : Rows) (asks log : List (Key × Call)) (past : PastOf) (client : ClientOf) → client.due ≡ 0
+    → IsServing opening asks log past client → IsServed opening asks log past client
+served_from opening asks log past client none_due serving =
+    let came = serving.reached in
+    let none : came.waiting ≡ [] = nil_from_length came.waiting (sym came.due_is ∙ none_due) in record {
+      clients = came.clients;
+      among = came.among;
+      given = came.given ∙ ap (λ (l : List (Key × Call)). flat_map spelling (flat_map (outcome_of opening log) l))
+          (sym (append-nil came.told) ∙ ap (λ (l : List (Key × Call)). came.told ++ l) (sym none) ∙ sym came.flushed_are);
+      waiting = came.pending_are ∙ ap (λ (l : List (Key × Call)). map (pending_ask log) (l ++ unflushed_asks past.frames)) none;
+      none_due = none_due;
+      heard = serving.heard;
+    }
