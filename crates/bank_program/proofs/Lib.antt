@@ -7,4 +7,5 @@ pub mod OptionValues
 pub mod PrintedLines
 pub mod SessionsInOrder
 pub mod SubcommandWords
+pub mod UnheardClients
 pub mod WholeOpenings

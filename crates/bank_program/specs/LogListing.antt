@@ -1,6 +1,5 @@
 -- What is listed of a log.
-use Rattle.std.specs.Prelude.{◌≡◌, ℕ, Some, Ok, List, [], ◌∷◌, ◌++◌, codes, decimal, length, map}
-use Rattle.hex.specs.Hex.{encode_lower}
+use Rattle.std.specs.Prelude.{◌≡◌, ℕ, Some, Ok, List, ◌++◌, map}
 use Rattle.sb_rows.specs.Customer.{customers_of}
 use Rattle.sb_rows.specs.Balances.{Balances}
 use Rattle.sb_rows.specs.Opening.{OpeningText, opening_lines, opening_of}
@@ -11,7 +10,6 @@ use Rattle.sb_calls.specs.Log.{rows_after}
 use Rattle.sb_calls.specs.declared.ask.Key.{Key}
 use Rattle.sb_calls.specs.declared.call.Call.{Call}
 use Rattle.sb_sequencer.specs.Numbering.{calls_of}
-use Rattle.sb_ask_log.specs.LogFile.{log_digest}
 use Rattle.bank_program.specs.ServeOutput.{log_lines}
 use Rattle.bank_program.specs.declared.log_listing.Listing.{Listing}
 use Rattle.bank_program.specs.declared.log_listing.Listing.TheVariants.{Asks, Rows, Check}

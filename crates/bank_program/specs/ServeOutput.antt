@@ -13,8 +13,9 @@ use Rattle.hex.specs.Hex.{encode_lower}
 use Rattle.sb_ask_log.specs.LogFile.{log_digest}
 use Rattle.sb_sequencer.specs.Numbering.{calls_of}
 use Rattle.bank_server.specs.SessionFaults.{session_fault_number}
-use Rattle.bank_server.specs.declared.session_fault.SessionFault.TheVariants.{Frame, Unexpected, CrewGone, Device, OutOfMemory, Log}
-use Rattle.bank_program.specs.Sessions.{End, ServesFirst}
+use Rattle.bank_server.specs.declared.session_fault.SessionFault.TheVariants.{Frame, Unexpected, CrewGone, Device, OutOfMemory, Log, TooMany}
+use Rattle.bank_server.specs.Clients.{End}
+use Rattle.bank_program.specs.Sessions.{ListenerClients, ServesFirst}
 
 -- a session that ended so lets the server go on
 abbrev pub ServerContinues : End → Type 0
@@ -25,6 +26,7 @@ ServerContinues (Err CrewGone) = ⊥
 ServerContinues (Err Device) = Unit {0}
 ServerContinues (Err OutOfMemory) = ⊥
 ServerContinues (Err (Log fault)) = ⊥
+ServerContinues (Err TooMany) = Unit {0}
 
 -- `ok`, or `fault` and its number
 abbrev pub end_text : End → List ℕ
@@ -64,17 +66,18 @@ abbrev pub end_lines : List (List ℕ) → Balances → List (Key × Call) → L
 end_lines names opening log = row_lines names (rows_after (calls_of log) (rows_of names opening))
 
 -- a bank with this opening and this log before is served at a port to this many of those who are coming,
--- and has this log then. It prints the log's line, if it has one, the port, how each session ended, the
--- log's line again, and the rows after the log, executed one by one
-pub record ServesBank {T : Type 0} (sends : T → Option (List ℕ)) (names : List (List ℕ)) (opening : Balances)
-    (count : ℕ) (at : Option ℕ) (coming : Option (List T)) (before log : List (Key × Call))
-    (text : Option (List ℕ)) (old new : Option (List ℕ)) : Type 0 where
+-- and has this log then. Each client gets the outcomes of its session. The bank prints the log's line, if
+-- it has one, the port, how each session ended, the log's line again, and the rows after the log, executed
+-- one by one
+pub record ServesBank {R W : Type 0} (sends : R → Option (List ℕ)) (gets : W → Option (List ℕ))
+    (names : List (List ℕ)) (opening : Balances) (count : ℕ) (at : Option ℕ)
+    (clients then : Option (ListenerClients R W))
+    (before log : List (Key × Call)) (text : Option (List ℕ)) (old new : Option (List ℕ)) : Type 0 where
   pub port : ℕ
   pub listens : IsPortOf at port
   pub ends : List End
   pub all : length ends ≡ count
   pub go_on : All ServerContinues ends
-  pub left : Option (List T)
-  pub heard : ServesFirst sends coming left before ends log
+  pub heard : ServesFirst sends gets (rows_of names opening) clients then before ends log
   pub printed : PrintsLines (log_lines text before ++ (port_line port ∷ session_lines 1 ends
       ++ log_lines text log ++ end_lines names opening log)) old new

@@ -6,6 +6,7 @@ use Rattle.sb_calls.specs.declared.call.Call.{Call}
 use Rattle.bank_server.specs.Primary.{HasWholeLog, PrimaryOf}
 use Rattle.sb_sequencer.specs.Numbering.{IsLog}
 use Rattle.bank_program.specs.ServeOutput.{ServesBank}
+use Rattle.bank_program.specs.Sessions.{ListenerClients}
 use Rattle.bank_program.specs.StoreAfter.{IsStoreAfter}
 use Rattle.bank_program.specs.declared.serving.Plan.{Plan}
 
@@ -27,12 +28,13 @@ pub record IsBankAfter {S K : Type 0} (model : StoreModel S) (keeps : K → List
 
 -- a bank is served by this plan: first its log is executed and kept; then its output and its log are as
 -- `ServesBank` says, with the opening of its file, and what is left of it is as `IsBankAfter` says
-pub record ServesByPlan {T S K : Type 0} (sends : T → Option (List ℕ)) (model : StoreModel S)
-    (keeps : K → List (Key × Call) → Type 0) (text_of : K → Option (List ℕ)) (plan : Plan) (at : Option ℕ)
-    (coming : Option (List T)) (before after : PrimaryOf S K) (old new : Option (List ℕ)) : Type 0 where
+pub record ServesByPlan {R W S K : Type 0} (sends : R → Option (List ℕ)) (gets : W → Option (List ℕ))
+    (model : StoreModel S) (keeps : K → List (Key × Call) → Type 0) (text_of : K → Option (List ℕ)) (plan : Plan)
+    (at : Option ℕ) (clients then : Option (ListenerClients R W)) (before after : PrimaryOf S K)
+    (old new : Option (List ℕ)) : Type 0 where
   pub opened : PrimaryOf S K
   pub at_first : IsBankAfter model keeps text_of false 1 before opened
   pub same_log : opened.log ≡ before.log
-  pub bank : ServesBank sends before.node.names before.node.board.opening plan.sessions at coming before.log after.log
-      (text_of before.keeper) old new
+  pub bank : ServesBank sends gets before.node.names before.node.board.opening plan.sessions at clients then
+      before.log after.log (text_of before.keeper) old new
   pub left : IsBankAfter model keeps text_of plan.saves plan.sessions before after

@@ -3,7 +3,7 @@ use clap::{Arg, ArgAction, Command, value_parser};
 use std::alloc::{AllocError, Global};
 
 /// The program's version, which stands here alone.
-const VERSION: &str = "0.1.0";
+const VERSION: &str = "0.2.0";
 
 const RUN: &str = "Runs calls from standard input.
 

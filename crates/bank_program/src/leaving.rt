@@ -26,7 +26,7 @@ pub(crate) fn leave<R: Clock, S: Read + OpenStream>(
     stream: &mut S,
     served: Result<(), SessionFault>,
 ) {
-    if let Err(SessionFault::Frame(_) | SessionFault::Unexpected) = served {
+    if let Err(SessionFault::Frame(_) | SessionFault::Unexpected | SessionFault::TooMany) = served {
         hang_up(rt, stream);
     }
 }

@@ -3,6 +3,7 @@
 #![tactic(auto)]
 
 mod client;
+mod client_stream;
 mod command;
 mod fault;
 mod found_bank;
@@ -23,9 +24,11 @@ mod serve_fault;
 mod server;
 mod serving;
 mod session_end;
+mod socket_writer;
 mod standard_streams;
 mod words;
 
+pub use client_stream::ClientStream;
 pub use fault::ProgramFault;
 pub use found_bank::{FoundBank, find_bank};
 pub use list_fault::ListFault;
@@ -40,4 +43,5 @@ pub use report::{Report, told};
 pub use serve_fault::ServeFault;
 pub use server::Server;
 pub use serving::{Plan, ServedBank, serve, serve_bank, serve_beside};
+pub use socket_writer::SocketWriter;
 pub use words::{LogAction, Words, read_words, refuse_bytes};

@@ -1,7 +1,7 @@
 //! The server of a bank's clients.
 ghost use Rattle.std.specs.Prelude.{◌≡◌, false, true, IfErr, IfOk, MatchOption, OnOk};
 ghost use Rattle.cown_workers.specs.Draining.{HasNoneOut};
-ghost use Rattle.bank_server.specs.Primary.{HasWholeLog};
+ghost use Rattle.bank_server.specs.Primary.{HasWholeLog, opening_rows_of};
 ghost use Rattle.sb_sequencer.specs.Numbering.{IsLog};
 ghost use Rattle.bank_program.specs.ServeFaults.{IsFinishFault, IsServingFault};
 ghost use Rattle.bank_program.specs.ServeOutput.{ServerContinues};
@@ -21,8 +21,7 @@ use cown_workers::Crew;
 use sb_ask_log::{Keeper, NoKeeper};
 use sb_checkpoint::CheckpointStore;
 use std::alloc::Global;
-use std::io::{Read, Write};
-use std::net::OpenStream;
+use std::io::Write;
 use std::sync::Wait;
 use std::thread::Threads;
 use std::time::Clock;
@@ -45,18 +44,18 @@ pub struct Server<D, S: CheckpointStore, W, K: Keeper = NoKeeper> {
 impl<D, S, W, K> Duty for Server<D, S, W, K>
 where
     D: ClientListener + Drop,
-    D::Stream: Read + Write + OpenStream,
     S: CheckpointStore,
     W: Write + Drop,
     K: Keeper,
 {
-    type Answer = Result<ServedBank<S, W, K>, ServeFault>;
+    type Answer = Result<ServedBank<D, S, W, K>, ServeFault>;
 
     ghost ready = { λ server. HasNoneOut server.primary.node.board };
 
-    ghost does = { λ server nodes workers keeps answer. IfOk answer (λ bank. ServesByPlan D.Stream.remaining S.model
-        K.Keeps K.opening server.plan (D.listens_at server.listener) (D.coming server.listener) server.primary
-        bank.primary (W.contents server.writer) (W.contents bank.writer))
+    ghost does = { λ server nodes workers keeps answer. IfOk answer (λ bank. ServesByPlan D.Reader.remaining
+        D.Writer.contents S.model K.Keeps K.opening server.plan (D.listens_at server.listener)
+        (D.clients server.listener) (D.clients bank.listener) server.primary bank.primary
+        (W.contents server.writer) (W.contents bank.writer))
         × IfErr answer (IsServingFault nodes (keeps ≡ true) server.plan.saves K.fails) };
 
     // Serves the bank, and prints its whole output.
@@ -65,7 +64,7 @@ where
         rt: &R,
         followers: &mut Followers<'_, R>,
         crew: &mut C,
-    ) -> Result<ServedBank<S, W, K>, ServeFault>
+    ) -> Result<ServedBank<D, S, W, K>, ServeFault>
     where
         R: Threads + Wait + Clock,
         C: Crew + WorkerCount,
@@ -73,6 +72,7 @@ where
         let mut server = self;
         match server.serve_whole(rt, followers, crew) {
             Ok(()) => Ok(ServedBank {
+                listener: server.listener,
                 primary: server.primary,
                 writer: server.writer,
             }),
@@ -84,7 +84,6 @@ where
 impl<D, S, W, K> Server<D, S, W, K>
 where
     D: ClientListener,
-    D::Stream: Read + Write + OpenStream,
     S: CheckpointStore,
     W: Write,
     K: Keeper,
@@ -100,8 +99,9 @@ where
         R: Threads + Wait + Clock,
         C: Crew,
         requires none_out { HasNoneOut self.old.primary.node.board }
-        ensures served { OnOk result (ServesByPlan D.Stream.remaining S.model K.Keeps K.opening self.old.plan
-            (D.listens_at self.old.listener) (D.coming self.old.listener) self.old.primary self.new.primary
+        ensures served { OnOk result (ServesByPlan D.Reader.remaining D.Writer.contents S.model K.Keeps K.opening
+            self.old.plan (D.listens_at self.old.listener) (D.clients self.old.listener)
+            (D.clients self.new.listener) self.old.primary self.new.primary
             (W.contents self.old.writer) (W.contents self.new.writer)) }
         ensures fault { IfErr result (IsServingFault followers.old.nodes (C.keeps ≡ true) self.old.plan.saves
             K.fails) }
@@ -129,8 +129,9 @@ where
         requires one_each { IsLog self.old.primary.log }
         requires whole_log { HasWholeLog self.old.primary }
         requires kept { K.Keeps self.old.primary.keeper self.old.primary.log }
-        ensures served { OnOk result (ServesAll D.Stream.remaining self.old.plan.sessions
-            (D.coming self.old.listener) (D.coming self.new.listener) self.old.primary.log self.new.primary.log
+        ensures served { OnOk result (ServesAll D.Reader.remaining D.Writer.contents
+            (opening_rows_of self.old.primary) self.old.plan.sessions
+            (D.clients self.old.listener) (D.clients self.new.listener) self.old.primary.log self.new.primary.log
             (W.contents self.old.writer) (W.contents self.new.writer)) }
         ensures bank_after { OnOk result (IsBankAfter S.model K.Keeps K.opening self.old.plan.saves
             self.old.plan.sessions self.old.primary self.new.primary) }
@@ -156,8 +157,9 @@ where
         R: Wait + Clock,
         C: Crew,
         requires one_each { IsLog self.old.primary.log }
-        ensures served { OnOk result (ServesNext D.Stream.remaining number
-            (D.coming self.old.listener) (D.coming self.new.listener) self.old.primary.log self.new.primary.log
+        ensures served { OnOk result (ServesNext D.Reader.remaining D.Writer.contents
+            (opening_rows_of self.old.primary) number
+            (D.clients self.old.listener) (D.clients self.new.listener) self.old.primary.log self.new.primary.log
             (W.contents self.old.writer) (W.contents self.new.writer)) }
         ensures bank_after { OnOk result (IsBankAfter S.model K.Keeps K.opening self.old.plan.saves 1
             self.old.primary self.new.primary) }
@@ -168,15 +170,16 @@ where
     {
         // The stream stays open until the session is finished, and ends as the client is left. So a
         // client whose stream ends while the server goes on knows that its asks are saved.
-        let mut stream = self.listener.accept_client()?;
+        let mut client = self.listener.accept_client()?;
         let (alloc, patience) = (self.alloc, self.plan.patience);
-        let served = serve_client(alloc, patience, &mut stream, &mut self.primary, crew);
+        let served = serve_client(alloc, patience, &mut client, &mut self.primary, crew);
         if let Some(fault) = ending(served) {
             return print_session(alloc, number, served, &mut self.writer).and(Err(fault));
         }
         finish_session(&mut self.primary, followers, self.plan.saves, crew)?;
         let printed = print_session(alloc, number, served, &mut self.writer);
-        leave(rt, &mut stream, served);
+        leave(rt, &mut client.reader, served);
+        self.listener.leave_client(client)?;
         printed
     }
 }
@@ -189,7 +192,12 @@ fn ending(served: Result<(), SessionFault>) -> Option<ServeFault>
         Err(SessionFault::CrewGone) => Some(ServeFault::Run(RunFault::CrewGone)),
         Err(SessionFault::OutOfMemory) => Some(ServeFault::Run(RunFault::OutOfMemory)),
         Err(SessionFault::Log(fault)) => Some(ServeFault::Log(fault)),
-        Ok(()) | Err(SessionFault::Frame(_) | SessionFault::Unexpected | SessionFault::Device) =>
-            None,
+        Ok(())
+        | Err(
+            SessionFault::Frame(_)
+            | SessionFault::Unexpected
+            | SessionFault::Device
+            | SessionFault::TooMany,
+        ) => None,
     }
 }

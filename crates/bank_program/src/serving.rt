@@ -20,8 +20,7 @@ use sb_checkpoint::CheckpointStore;
 use sb_rows::Opening;
 use sb_sequencer::REPLICAS;
 use std::alloc::Global;
-use std::io::{Read, Write};
-use std::net::OpenStream;
+use std::io::Write;
 use std::sync::Wait;
 use std::thread::Threads;
 use std::time::Clock;
@@ -43,15 +42,17 @@ pub struct Plan {
 
 /// A bank that was served.
 #[derive(Drop)]
-pub struct ServedBank<S: CheckpointStore, W, K: Keeper = NoKeeper> {
+pub struct ServedBank<D, S: CheckpointStore, W, K: Keeper = NoKeeper> {
+    /// The listener that accepted its clients.
+    pub listener: D,
     /// Its log and node 0, which has executed all of it.
     pub primary: Primary<S, K>,
     /// The writer where it printed.
     pub writer: W,
 }
 
-/// Serves a bank with this opening to those who come to a listener, and gives back the bank and the
-/// writer.
+/// Serves a bank with this opening to those who come to a listener, and gives back the bank, the
+/// listener and the writer.
 ///
 /// It prints the address, and then a line for each session, as soon as node 0 has executed all that
 /// was asked and it was sent to the followers. At the end, once the followers agree with node 0, it
@@ -60,7 +61,7 @@ pub struct ServedBank<S: CheckpointStore, W, K: Keeper = NoKeeper> {
 ///
 /// Fails with
 /// - [`ServeFault::Run`] if a follower can't be started or differs from node 0, the crew is gone,
-///   no client can be accepted, a write to the writer or the store's device fails, or memory is
+///   no client can be accepted or left, a write to the writer or the store's device fails, or memory is
 ///   refused,
 /// - [`ServeFault::ReadBack`] if the store doesn't give back what was put.
 ///
@@ -73,19 +74,19 @@ pub fn serve<H, D, S, W>(
     store: S,
     plan: Plan,
     writer: W,
-) -> Result<ServedBank<S, W>, ServeFault>
+) -> Result<ServedBank<D, S, W>, ServeFault>
 where
     H: Threads + Wait + Clock + Sync,
     D: ClientListener + Drop,
-    D::Stream: Read + Write + OpenStream,
     S: CheckpointStore,
     W: Write + Drop,
     requires nodes { plan.nodes ≤ REPLICAS }
     requires workers { plan.workers ≤ WORKERS }
-    // The log is that of the clients' sessions, and the printed rows are those after it.
-    ensures served { IfOk result (λ bank. ServesBank D.Stream.remaining opening.directory
-        opening.columns plan.sessions (D.listens_at listener) (D.coming listener) [] bank.primary.log None
-        (W.contents writer) (W.contents bank.writer)) }
+    // The log is that of the clients' sessions, each client gets the outcomes of its session, and the
+    // printed rows are those after the log.
+    ensures served { IfOk result (λ bank. ServesBank D.Reader.remaining D.Writer.contents opening.directory
+        opening.columns plan.sessions (D.listens_at listener) (D.clients listener) (D.clients bank.listener) []
+        bank.primary.log None (W.contents writer) (W.contents bank.writer)) }
     ensures one_each { IfOk result (λ bank. IsLog bank.primary.log) }
     ensures whole_log { IfOk result (λ bank. HasWholeLog bank.primary) }
     ensures names { IfOk result (λ bank. bank.primary.node.names ≡ opening.directory) }
@@ -117,20 +118,19 @@ where
 pub fn serve_bank<H, D, S, W, K>(
     rt: &H,
     server: Server<D, S, W, K>,
-) -> Result<ServedBank<S, W, K>, ServeFault>
+) -> Result<ServedBank<D, S, W, K>, ServeFault>
 where
     H: Threads + Wait + Clock + Sync,
     D: ClientListener + Drop,
-    D::Stream: Read + Write + OpenStream,
     S: CheckpointStore,
     W: Write + Drop,
     K: Keeper,
     requires nodes { server.plan.nodes ≤ REPLICAS }
     requires workers { server.plan.workers ≤ WORKERS }
     requires opened { HasNoEntries server.primary.node.board }
-    ensures served { IfOk result (λ bank. ServesByPlan D.Stream.remaining S.model K.Keeps K.opening server.plan
-        (D.listens_at server.listener) (D.coming server.listener) server.primary bank.primary
-        (W.contents server.writer) (W.contents bank.writer)) }
+    ensures served { IfOk result (λ bank. ServesByPlan D.Reader.remaining D.Writer.contents S.model K.Keeps K.opening
+        server.plan (D.listens_at server.listener) (D.clients server.listener) (D.clients bank.listener)
+        server.primary bank.primary (W.contents server.writer) (W.contents bank.writer)) }
     ensures fault { IfErr result (IsServingFault server.plan.nodes (0 < server.plan.workers) server.plan.saves
         K.fails) }
 {
@@ -149,20 +149,19 @@ pub fn serve_beside<H, D, S, W, K>(
     rt: &H,
     followers: ReadyFollowers,
     server: Server<D, S, W, K>,
-) -> Result<ServedBank<S, W, K>, ServeFault>
+) -> Result<ServedBank<D, S, W, K>, ServeFault>
 where
     H: Threads + Wait + Clock + Sync,
     D: ClientListener + Drop,
-    D::Stream: Read + Write + OpenStream,
     S: CheckpointStore,
     W: Write + Drop,
     K: Keeper,
     requires nodes { followers.nodes ≤ REPLICAS }
     requires workers { server.plan.workers ≤ WORKERS }
     requires none_out { HasNoneOut server.primary.node.board }
-    ensures served { IfOk result (λ bank. ServesByPlan D.Stream.remaining S.model K.Keeps K.opening server.plan
-        (D.listens_at server.listener) (D.coming server.listener) server.primary bank.primary
-        (W.contents server.writer) (W.contents bank.writer)) }
+    ensures served { IfOk result (λ bank. ServesByPlan D.Reader.remaining D.Writer.contents S.model K.Keeps K.opening
+        server.plan (D.listens_at server.listener) (D.clients server.listener) (D.clients bank.listener)
+        server.primary bank.primary (W.contents server.writer) (W.contents bank.writer)) }
     ensures fault { IfErr result (IsServingFault followers.nodes (0 < server.plan.workers) server.plan.saves
         K.fails) }
 {

@@ -1,8 +1,9 @@
 //! Clients in memory, who connect one after another.
 ghost use Rattle.std.specs.Counts.{IsPrefixLen};
-ghost use Rattle.std.specs.Prelude.{IfOk, Some};
+ghost use Rattle.std.specs.Prelude.{IfOk, OnOk, Some};
+ghost use Rattle.bank_program.specs.Sessions.{LeavesClient};
 
-use bank_program::ClientListener;
+use bank_program::{ClientListener, ClientStream};
 use std::alloc::{AllocError, Global};
 use std::cell::{Cell, RefCell};
 use std::collections::VecDeque;
@@ -75,7 +76,7 @@ impl Transcript {
     }
 }
 
-/// The server's end of a client's stream.
+/// Where the server reads what a client sends.
 #[derive(Drop)]
 pub(crate) struct End<'c, 't> {
     client: Client<'c>,
@@ -99,9 +100,16 @@ impl Read for End<'_, '_> {
     }
 }
 
-impl Write for End<'_, '_> {
+/// Where the server writes what a client gets.
+#[derive(Drop)]
+pub(crate) struct Ear<'t> {
+    manner: Manner,
+    told: &'t Transcript,
+}
+
+impl Write for Ear<'_> {
     fn write(&mut self, buf: &[u8]) -> io::Result<usize> {
-        if self.client.manner == Manner::Deaf {
+        if self.manner == Manner::Deaf {
             return Err(io::Error::from(ErrorKind::BrokenPipe));
         }
         let Ok(mut bytes) = self.told.bytes.try_borrow_mut() else {
@@ -140,19 +148,16 @@ impl OpenStream for End<'_, '_> {
             .set(self.told.hung_up.get().wrapping_add(1));
         Ok(())
     }
-
-    fn try_clone(&self) -> io::Result<Self> {
-        Ok(End {
-            client: self.client,
-            told: self.told,
-        })
-    }
 }
+
+/// The server's end of a client's stream.
+pub(crate) type Stream<'c, 't> = ClientStream<End<'c, 't>, Ear<'t>>;
 
 /// Lets clients in, in order. After the last one it lets nobody in.
 #[derive(Drop)]
 pub(crate) struct TestListener<'c, 't> {
-    pub(crate) coming: VecDeque<End<'c, 't>>,
+    coming: VecDeque<Stream<'c, 't>>,
+    left: Vec<Stream<'c, 't>>,
 }
 
 impl<'c, 't> TestListener<'c, 't> {
@@ -165,24 +170,39 @@ impl<'c, 't> TestListener<'c, 't> {
         let mut coming = VecDeque::new(alloc);
         for client in clients {
             let client = *client;
-            coming.push_back(End { client, told })?;
+            let manner = client.manner;
+            coming.push_back(ClientStream {
+                reader: End { client, told },
+                writer: Ear { manner, told },
+            })?;
         }
-        Ok(TestListener { coming })
+        let left = Vec::new(alloc);
+        Ok(TestListener { coming, left })
     }
 }
 
 impl<'c, 't> ClientListener for TestListener<'c, 't> {
-    type Stream = End<'c, 't>;
+    type Reader = End<'c, 't>;
 
-    ghost coming = { λ listener. Some listener.coming.items };
+    type Writer = Ear<'t>;
+
+    ghost clients = { λ listener. Some (record { coming = listener.coming.items; left = listener.left.items }) };
 
     ghost listens_at = { λ listener. Some 4000 };
 
-    fn accept_client(&mut self) -> io::Result<End<'c, 't>> {
+    fn accept_client(&mut self) -> io::Result<Stream<'c, 't>> {
         match self.coming.pop_front() {
             Some(client) => Ok(client),
             None => Err(io::Error::from(ErrorKind::ConnectionAborted)),
         }
+    }
+
+    fn leave_client(&mut self, client: Stream<'c, 't>) -> io::Result<()>
+        ensures left { OnOk result (LeavesClient client.entry
+            (Some (record { coming = self.old.coming.items; left = self.old.left.items }))
+            (Some (record { coming = self.new.coming.items; left = self.new.left.items }))) }
+    {
+        Ok(self.left.push(client)?)
     }
 
     fn port(&self) -> io::Result<u16> {

@@ -7,6 +7,8 @@ mod clients;
 #[cfg(test)]
 mod hostile;
 #[cfg(test)]
+mod known;
+#[cfg(test)]
 mod logs;
 #[cfg(test)]
 mod openings;

@@ -26,7 +26,8 @@ pub(crate) const TOLD: &[u8] = b"\x00\x13\x05\0\0\0\x07\0\0\0\x01\0\0\0\0\0\0\0\
 \x00\x13\x05\0\0\0\x07\0\0\0\x02\0\x01\0\0\0\0\0\0\0\0";
 
 // The deposit alone, whose outcome nobody gets.
-const DEPOSIT: &[u8] = b"\x00\x16\x01\0\0\0\x07\0\0\0\x02\x02\x03bob\0\0\0\0\0\0\x01\xf4";
+pub(crate) const DEPOSIT: &[u8] =
+    b"\x00\x16\x01\0\0\0\x07\0\0\0\x02\x02\x03bob\0\0\0\0\0\0\x01\xf4";
 
 // A flush, and an acknowledgement, which no client may send.
 const ACK: &[u8] = b"\x00\x01\x06\x00\x0a\x03\x01\0\0\0\0\0\0\0\x02";

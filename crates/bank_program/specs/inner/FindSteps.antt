@@ -2,7 +2,6 @@
 use Rattle.std.specs.Prelude.{◌≡◌, ◌≢◌, ℕ, Err, List, []}
 use Rattle.sb_log.specs.declared.log_fault.LogFault.TheVariants as log
 use Rattle.sb_ask_log.specs.Recovery.{HasPartOfOpening}
-use Rattle.bank_server.specs.Faults.{IsTextFaultOf}
 use Rattle.bank_server.specs.declared.fault.RunFault.TheVariants as run
 use Rattle.bank_program.specs.FoundBank.{with_line_end}
 use Rattle.bank_program.specs.Opening.{whole_opening_of}

@@ -6,7 +6,7 @@ use Rattle.bank_program.specs.declared.serve_fault.ServeFault.{ServeFault}
 use Rattle.bank_program.specs.declared.serve_fault.ServeFault.TheVariants.{Log, Run, Store}
 use Rattle.bank_server.specs.declared.session_fault.SessionFault.TheVariants as session
 use Rattle.bank_program.specs.ServeFaults.{IsBankFault, IsOpeningRunFault}
-use Rattle.bank_program.specs.Sessions.{End}
+use Rattle.bank_server.specs.Clients.{End}
 
 -- a device failed, or memory was refused
 abbrev pub IsPrintRunFault : RunFault → Type 0

@@ -1,9 +1,12 @@
 use Rattle.bank_server.proofs.Keeping.{stays_bank}
-use Rattle.bank_program.proofs.SessionsInOrder.{not_heard}
+use Rattle.bank_server.specs.Primary.{opening_rows_of}
+use Rattle.bank_program.proofs.UnheardClients.{not_heard}
 use Rattle.bank_program.proofs.client.serve_client.Goals as goal
 
-pub returns-in_default-clause-session : goal.returns-in_default-clause-session
-returns-in_default-clause-session g c = not_heard c.args.primary.now.log c.requires.one_each (g.T.Read.remaining c.args.stream.now)
+pub returns-then-is_err-clause-session : goal.returns-then-is_err-clause-session
+returns-then-is_err-clause-session g c =
+    not_heard (opening_rows_of c.args.primary.now) c.args.primary.now.log c.requires.one_each (g.R.Read.remaining c.args.client.now.reader)
+    (g.W.Write.contents c.args.client.now.writer)
 
-pub returns-in_default-clause-bank : goal.returns-in_default-clause-bank
-returns-in_default-clause-bank g c = stays_bank c.args.primary.now
+pub returns-then-is_err-clause-bank : goal.returns-then-is_err-clause-bank
+returns-then-is_err-clause-bank g c = stays_bank c.args.primary.now

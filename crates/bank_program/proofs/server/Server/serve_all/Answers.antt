@@ -1,17 +1,21 @@
-use Rattle.std.proofs.Common.{◌≡◌, true, refl, subst, ◌∙◌, arith}
+use Rattle.std.proofs.Common.{◌≡◌, ◌+◌, true, refl, subst, ◌∙◌, arith}
 use Rattle.std.proofs.lemmas.Result.{err_from_is_err_and}
+use Rattle.sb_rows.specs.Rows.{Rows}
+use Rattle.bank_server.specs.Primary.{opening_rows_of}
 use Rattle.bank_server.proofs.Boards.{idle_none_out}
 use Rattle.bank_program.specs.ServeFaults.{IsFinishFault}
 use Rattle.bank_program.specs.ServedBank.{IsBankAfter}
+use Rattle.bank_program.specs.inner.ServeSteps.{ServesNext}
 use Rattle.bank_program.specs.declared.serving.Plan.{Plan}
 use Rattle.bank_program.proofs.BankAfter.{left_after_next, left_at_first}
 use Rattle.bank_program.proofs.GoneCrews.{finish_fault_if, keeps_if}
-use Rattle.bank_program.proofs.PrintedLines.{no_sessions, next_session}
+use Rattle.bank_program.proofs.PrintedLines.{next_session, no_sessions, same_rows}
 use Rattle.bank_program.proofs.server.Server.serve_all.Goals as goal
 
 pub loop-before-init : goal.loop-before-init
 loop-before-init g c = record {
-  served = no_sessions g.D.Stream.Read.remaining (g.D.ClientListener.coming c.args.self.now.listener) c.args.self.now.primary.log
+  served = no_sessions g.D.Reader.Read.remaining g.D.Writer.Write.contents (opening_rows_of c.args.self.now.primary)
+      (g.D.ClientListener.clients c.args.self.now.listener) c.args.self.now.primary.log
       (g.W.Write.contents c.args.self.now.writer);
   within = omega arith;
   left = left_at_first g.S.CheckpointStore.model g.K.Keeper.Keeps g.K.Keeper.opening c.args.self.now.plan.saves c.args.self.now.primary c.requires.one_each
@@ -25,12 +29,16 @@ loop-before-preserved g c =
     let kept = c.loop-before.invariant in
     let next = c.in_ok-serve_next.ensures in
     record {
-      served = next_session g.D.Stream.Read.remaining c.loop-before.before (g.D.ClientListener.coming c.args.self.now.listener)
-          (g.D.ClientListener.coming c.loop-before.self.listener)
-          (g.D.ClientListener.coming c.serve_next.new.self.listener) c.args.self.now.primary.log
+      served = next_session g.D.Reader.Read.remaining g.D.Writer.Write.contents (opening_rows_of c.args.self.now.primary) c.loop-before.before
+          (g.D.ClientListener.clients c.args.self.now.listener) (g.D.ClientListener.clients c.loop-before.self.listener)
+          (g.D.ClientListener.clients c.serve_next.new.self.listener) c.args.self.now.primary.log
           c.loop-before.self.primary.log c.serve_next.new.self.primary.log
           (g.W.Write.contents c.args.self.now.writer) (g.W.Write.contents c.loop-before.self.writer) (g.W.Write.contents c.serve_next.new.self.writer)
-          kept.served next.served;
+          kept.served (subst (λ (rows : Rows). ServesNext g.D.Reader.Read.remaining g.D.Writer.Write.contents rows (c.loop-before.before + 1)
+          (g.D.ClientListener.clients c.loop-before.self.listener) (g.D.ClientListener.clients c.serve_next.new.self.listener)
+          c.loop-before.self.primary.log c.serve_next.new.self.primary.log
+          (g.W.Write.contents c.loop-before.self.writer) (g.W.Write.contents c.serve_next.new.self.writer))
+          (same_rows c.args.self.now.primary c.loop-before.self.primary kept.left.bank) next.served);
       within = omega (arith, c.loop-before-test.true);
       left = left_after_next g.S.CheckpointStore.model g.K.Keeper.Keeps g.K.Keeper.opening c.args.self.now.plan.saves c.loop-before.before
           c.args.self.now.primary
