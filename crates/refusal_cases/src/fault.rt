@@ -3,6 +3,7 @@
 use bank_server::{RunFault, SessionFault};
 use sb_checkpoint::CheckpointFault;
 use sb_frames::StreamFault;
+use sb_replica::ReceiveFault;
 use sb_rows::OpeningFault;
 use schedule_player::StepFault;
 use schedule_text::TextFault;
@@ -37,6 +38,9 @@ pub enum CaseFault {
     /// A stream takes no bytes, or gives no frame.
     #[error(transparent)]
     Stream(#[from] StreamFault),
+    /// A replica doesn't receive a stream.
+    #[error(transparent)]
+    Receive(#[from] ReceiveFault),
     /// Memory was refused.
     #[error("out of memory")]
     OutOfMemory(#[from(alloc)] AllocError),

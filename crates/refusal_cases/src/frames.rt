@@ -31,8 +31,12 @@ pub(crate) fn play_case(alloc: Global, report: &mut Report) -> Result<(), CaseFa
     Ok(report.add_bytes()?)
 }
 
-// Bytes come.
-fn feed(stream: &mut Stream, bytes: &[u8], report: &mut Report) -> Result<(), CaseFault> {
+/// Bytes come.
+pub(crate) fn feed(
+    stream: &mut Stream,
+    bytes: &[u8],
+    report: &mut Report,
+) -> Result<(), CaseFault> {
     match stream.feed(bytes) {
         Err(StreamFault::OutOfMemory) => {
             report.refused("Stream::feed")?;

@@ -14,9 +14,11 @@ use std::time::Clock;
 mod amounts;
 mod bytewise;
 mod checkpoint;
+mod entries;
 mod fault;
 mod five_calls;
 mod frames;
+mod opening;
 mod report;
 mod schedule;
 mod session;
@@ -76,8 +78,10 @@ fn play_all<R: Threads + Wait + Clock + Sync>(
     story::play_case(alloc, story::TWO_HANDS, report)?;
     story::play_case(alloc, story::CUT, report)?;
     story::play_case(alloc, story::STATE, report)?;
+    story::play_case(alloc, story::CRASH, report)?;
     checkpoint::play_case(alloc, report)?;
-    frames::play_case(alloc, report)
+    frames::play_case(alloc, report)?;
+    entries::play_case(alloc, report)
 }
 
 fn failed(rt: &HostRuntime, fault: Fault) -> ExitCode {

@@ -2,14 +2,13 @@
 
 use crate::bytewise::BytewiseReader;
 use crate::fault::CaseFault;
+use crate::opening::read;
 use crate::report::Report;
 use bank_server::{Primary, SessionFault, serve_session};
 use cown_workers::InlineCrew;
 use sb_checkpoint::MemoryStore;
-use sb_rows::{Opening, OpeningFault, read_opening};
+use sb_rows::Opening;
 use std::alloc::{AllocError, Global};
-
-const OPENING: &[u8] = b"alice 100.00 50.00\nbob 0.00 20.00\ncarol 10.00 0.00\nbegin\n";
 
 // Client 7 asks for alice's balance, deposits 5.00 for bob, flushes, asks for the balance again,
 // and flushes.
@@ -63,14 +62,4 @@ fn opened(alloc: Global, report: &mut Report) -> Result<Box<Primary<MemoryStore>
 fn open(alloc: Global, opening: Opening) -> Result<Box<Primary<MemoryStore>>, AllocError> {
     let primary = Primary::open(alloc, opening, MemoryStore::new(alloc))?;
     Ok(Box::new(alloc, primary)?)
-}
-
-fn read(alloc: Global, report: &mut Report) -> Result<Opening, CaseFault> {
-    match read_opening(alloc, OPENING) {
-        Err(OpeningFault::OutOfMemory) => {
-            report.refused("read_opening")?;
-            Ok(read_opening(alloc, OPENING)?)
-        }
-        read => Ok(read?),
-    }
 }

@@ -83,6 +83,30 @@ audit 0 1
 restart 1
 ";
 
+/// The sequencer crashes twice: what isn't synced is lost, and then kept.
+pub(crate) const CRASH: &str = "nodes 1 workers 1
+alice 100.00 50.00
+bob 0.00 20.00
+carol 10.00 0.00
+begin
+append 1 1 deposit alice 1.00
+sync
+append 1 2 deposit bob 2.00
+send 0 1
+to 0 1
+take 0 1 0
+finish 0 1
+crash 0
+ask 1 3 deposit carol 3.00
+resend 0
+to 0 3
+take 0 1 0
+finish 0 1
+append 1 4 balance bob
+crash 3
+append 1 4 balance bob
+";
+
 /// Reports what happens in a schedule, and what the first replica holds at the end.
 pub(crate) fn play_case(alloc: Global, text: &str, report: &mut Report) -> Result<(), CaseFault> {
     let mut planned = plan(alloc, text, report)?;

@@ -153,7 +153,7 @@ fn store_contains(
     replica: &mut Replica<MemoryStore>,
     fields: Option<&[&str]>,
 ) {
-    let stored = replica.store_content().expect(rt, "memory for the bytes");
+    let stored = replica.stored().expect(rt, "memory for the bytes");
     let written = fields.map(|fields| bytes(rt, fields));
     assert!(rt; stored == written);
 }

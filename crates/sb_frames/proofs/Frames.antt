@@ -42,6 +42,15 @@ sized_so bytes k e =
     let same = same_value (2 + size) k long.1 in
     (ltb-false (length bytes) 2 two.0, sym same, subst (λ n. n ≤ length bytes) same (ltb-false (length bytes) (2 + size) long.0))
 
+-- the size of what is decoded is the one that its length states
+pub decoded_size : (bytes : List ℕ) (frame : Frame) (k : ℕ) → decode_result bytes ≡ Ok (frame, k) → frame_size bytes ≡ Ok k
+unfolding decode_result
+decoded_size bytes frame k e =
+    let step = first_step (frame_size bytes) (λ n. frame_of (body_bytes bytes n) >>= λ f. Ok (f, n)) (frame, k) e in
+    let read = first_step (frame_of (body_bytes bytes step.0)) (λ f. Ok (f, step.0)) (frame, k) step.2 in
+    let same = same_value (read.0, step.0) (frame, k) read.2 in
+    step.1 ∙ ap (λ (p : Frame × ℕ). Ok p.1) same
+
 pub decoded_takes : (bytes : List ℕ) (frame : Frame) (k : ℕ) → AreBytes bytes → decode_result bytes ≡ Ok (frame, k)
     → (k ≤ length bytes) × Spells frame (take k bytes)
 unfolding decode_result spelling

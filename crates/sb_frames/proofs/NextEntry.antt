@@ -8,9 +8,9 @@ use Rattle.sb_calls.specs.declared.op.Op.{Op}
 use Rattle.sb_calls.specs.declared.op.Op.TheVariants.{Balance, DepositChecking, TransactSavings, Amalgamate, WriteCheck, SendPayment, SameCustomer}
 use Rattle.sb_rows.proofs.NamePlaces.{place_of_within}
 use Rattle.sb_rows.specs.Directory.{place_of}
-use Rattle.sb_frames.specs.Decoding.{decode_result}
+use Rattle.sb_frames.specs.Decoding.{decode_result, frame_size}
 use Rattle.sb_frames.specs.Entries.{HasEntry, TakesEntry}
-use Rattle.sb_frames.specs.Streaming.{AreBytes, StreamState, next_by}
+use Rattle.sb_frames.specs.Streaming.{AreBytes, StreamState, Next, Step, next_by, next_of}
 use Rattle.sb_frames.specs.declared.entry_op.EntryOp.{EntryOp}
 use Rattle.sb_frames.specs.declared.fault.FrameFault.{FrameFault}
 use Rattle.sb_frames.specs.declared.fault.FrameFault.TheVariants.{Short, BadLength, UnknownTag, BadName, BadAmount, BadReply, BadStatus}
@@ -19,7 +19,7 @@ use Rattle.sb_frames.specs.declared.frame.Frame.{Frame}
 use Rattle.sb_frames.specs.declared.frame.Frame.TheVariants.{Entry}
 use Rattle.sb_frames.specs.inner.EntryReading.{first_entry}
 use Rattle.sb_frames.proofs.EntryOps.{entry_with, first_entry_is_frame, frame_has_first_entry}
-use Rattle.sb_frames.proofs.Frames.{decoded_takes}
+use Rattle.sb_frames.proofs.Frames.{decoded_size, decoded_takes}
 use Rattle.sb_frames.proofs.NextFrame.{handed_out}
 
 -- ---- an entry is taken
@@ -121,3 +121,43 @@ none_is_there names old unread seen fine none h =
     let found = frame_has_first_entry names unread h.0 h.1 read.0 (ap decode_result seen ∙ read.1) in
     let some : result_ok (first_entry names unread) ≡ Some (entry_with h.0 (op_of names h.1), read.0) = ap result_ok found in
     absurd cc
+
+-- ---- an entry is skipped
+
+not_failed : (old : StreamState) → HasEntry old → old.failed ≡ false
+not_failed old h = of old.failed refl where
+  of : (failed : Bool) → old.failed ≡ failed → failed ≡ false
+  of true e = let answer = ap (λ (a : After). a.0) (rw e at h.3) in absurd cc
+  of false e = refl
+
+-- the entry, and its size
+pub front_entry : (old : StreamState) (unread : List ℕ) → unread ≡ old.unread → HasEntry old
+    → (number : ℕ) × (call : Call) × (size : ℕ) × (decode_result unread ≡ Ok (Entry number call, size)) × (frame_size unread ≡ Ok size)
+front_entry old unread seen h =
+    let fine = not_failed old h in
+    let read = next_decoded old.unread (decode_result old.unread) (Entry h.0 h.1) h.2 (rw fine at h.3) in
+    let decoded : decode_result unread ≡ Ok (Entry h.0 h.1, read.0) = ap decode_result seen ∙ read.1 in
+    (h.0, h.1, read.0, decoded, decoded_size unread (Entry h.0 h.1) read.0 decoded)
+
+ok_is : (read : Result ℕ FrameFault) (one other : ℕ) → read ≡ Ok one → read ≡ Ok other → one ≡ other
+ok_is (Ok size) one other e d = cc
+ok_is (Err fault) one other e d = absurd cc
+
+goes_on : (old : StreamState) (frame : Frame) (size : ℕ) (left : List ℕ) (failed : Bool) → old.failed ≡ false → decode_result old.unread ≡ Ok (frame, size)
+    → drop size old.unread ≡ left → failed ≡ false → next_of old ≡ handing_out frame left failed
+goes_on old frame size left failed fine decoded behind going =
+    rw (fine, decoded) (ap (λ (xs : List ℕ). handing_out frame xs false) behind ∙ ap (λ (b : Bool). handing_out frame left b) (sym going))
+
+-- what a stream is behind its size
+pub skipped : (old : StreamState) (unread left : List ℕ) (failed : Bool) (size : ℕ) → HasEntry old → unread ≡ old.unread → failed ≡ old.failed
+    → frame_size unread ≡ Ok size → left ≡ drop size unread
+    → (number : ℕ) × (call : Call) × Step old (Next (Ok (Some (Entry number call)))) (record { unread = left; failed = failed })
+skipped old unread left failed size h seen same sized rest =
+    let fine = not_failed old h in
+    let front = front_entry old unread seen h in
+    let frame = Entry front.0 front.1 in
+    let size_is : front.2 ≡ size = ok_is (frame_size unread) front.2 size front.4 sized in
+    let decoded : decode_result old.unread ≡ Ok (frame, size) =
+    ap decode_result (sym seen) ∙ front.3 ∙ ap (λ n. Ok (frame, n)) size_is in
+    let behind : drop size old.unread ≡ left = ap (drop size) (sym seen) ∙ sym rest in
+    (front.0, front.1, sym (goes_on old frame size left failed fine decoded behind (same ∙ fine)))

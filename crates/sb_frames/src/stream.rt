@@ -1,5 +1,5 @@
 //! A stream of bytes, read as frames.
-ghost use Rattle.std.specs.Prelude.{◌≡◌, ◌↔◌, [], Ok, Err, Some, IsTrue, false, true, IfNone, IfOk, IfSome, OnErr, length};
+ghost use Rattle.std.specs.Prelude.{◌≡◌, ◌↔◌, ℕ, [], Ok, Err, Some, IsTrue, false, true, IfNone, IfOk, IfSome, OnErr, length};
 ghost use Rattle.sb_frames.specs.Streaming.{StreamState, empty_stream, Feeds, next_of, Step, Feed, Next, HandsOut, IsShort, FailsBy};
 ghost use Rattle.sb_calls.specs.Op.{IsOpWithin};
 ghost use Rattle.sb_calls.specs.declared.call.Call.{Call as AnyCall};
@@ -7,10 +7,11 @@ ghost use Rattle.sb_frames.specs.Entries.{HasEntry, TakesEntry};
 ghost use Rattle.sb_frames.specs.declared.fault.StreamFault.{StreamFault as AnyStreamFault};
 ghost use Rattle.sb_frames.specs.declared.frame.Frame.TheVariants.{Entry};
 
-use crate::decoding::decode;
-use crate::entry_op::{EntryOp, first_entry};
+use crate::decoding::{decode, frame_size};
+use crate::entry_op::EntryOp;
 use crate::fault::{FrameFault, StreamFault};
 use crate::frame::Frame;
+use crate::lookahead::Lookahead;
 use bytes::BytesMut;
 use sb_rows::Directory;
 use std::alloc::Global;
@@ -97,6 +98,27 @@ impl Stream {
         }
     }
 
+    /// The unread bytes, for reading entries ahead. The stream takes nothing by it.
+    #[inline]
+    pub fn lookahead(&self) -> Lookahead<'_>
+        ensures { result ≡ self.now }
+    {
+        Lookahead::of(&self.buffer, self.broken)
+    }
+
+    /// Skips the entry at the front of the unread bytes, which [`Stream::next`] would hand out. It
+    /// allocates nothing.
+    #[inline]
+    pub fn skip_entry(&mut self)
+        requires { HasEntry self.old }
+        // It counts as the frame that `next` would hand out.
+        ensures step { (number : ℕ) × (call : AnyCall)
+            × Step self.old (Next (Ok (Some (Entry number call)))) self.new }
+    {
+        let size = frame_size(&self.buffer).unwrap();
+        self.buffer.advance(size);
+    }
+
     /// The entry at the front of the unread bytes, with its names looked up in a directory, or
     /// `None` if no whole entry is there: then nothing changes, and [`Stream::next`] says what is.
     /// It allocates nothing.
@@ -109,11 +131,8 @@ impl Stream {
         ensures none { IfNone result ((¬ HasEntry self.old) × (self.new ≡ self.old)) }
         ensures within { IfSome result (λ entry. IsOpWithin (length directory.now) entry.op) }
     {
-        if self.broken {
-            return None;
-        }
-        let (entry, size) = first_entry(&self.buffer, directory)?;
-        self.buffer.advance(size);
+        let entry = self.lookahead().next_entry(directory)?;
+        self.skip_entry();
         Some(entry)
     }
 

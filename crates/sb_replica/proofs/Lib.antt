@@ -2,6 +2,7 @@ pub mod AcceptedEntries
 pub mod AdoptedStates
 pub mod BoardReplies
 pub mod ChangedLogs
+pub mod EntriesAhead
 pub mod IdleReplies
 pub mod KeptStates
 pub mod MarkedReplies

@@ -1,9 +1,10 @@
 -- A batch that was looked up and offered: what was heard, and how it ended.
-use Rattle.std.proofs.Common.{◌≡◌, ℕ, suc, ◌+◌, ◌<◌, ◌≤◌, arith, Option, Some, None, Result, Ok, Err, List, [], ◌∷◌, ◌++◌, length, length-drop, length-take, take, drop, map, refl, sym, ap, subst, ◌∙◌, append_assoc, inl, inr, zero}
+use Rattle.std.proofs.Common.{◌≡◌, ℕ, suc, ◌+◌, ◌<◌, ◌≤◌, arith, Option, Some, None, Result, Ok, Err, List, [], ◌∷◌, length, length-take, take, map, refl, sym, ap, subst, ◌∙◌, zero}
 use Rattle.std.specs.List.{All}
-use Rattle.std.specs.Prelude.{◌≢◌, ◌⊎◌, MatchResult, slice_get}
-use Rattle.std.proofs.lemmas.List.{length-append, length-map, map-append, take-append-drop, take-map}
+use Rattle.std.specs.Prelude.{◌≢◌, MatchResult, slice_get}
+use Rattle.std.proofs.lemmas.List.{length-map, take-map}
 use Rattle.std.proofs.lemmas.List.Elements.{All-nil, All-take}
+use Rattle.std.proofs.lemmas.Option.{slice_get_within}
 use Rattle.sb_calls.specs.declared.call.Call.{Call}
 use Rattle.cown_board.specs.Board.{BoardOf, unfinished_of}
 use Rattle.cown_board.specs.declared.board.TheConstants.{OPEN_BEHAVIOURS}
@@ -21,23 +22,18 @@ use Rattle.sb_replica_log.specs.Offers.{offer_answer}
 use Rattle.sb_replica_log.specs.declared.offered.Offered.TheVariants as offer
 use Rattle.sb_replica.proofs.ReceivedBytes.{ignores}
 use Rattle.sb_replica.proofs.ReceivedEntries.{are_heard, batch_stays, opens}
-use Rattle.sb_replica.proofs.ReceivedStreams.{handed_append, then_fault, then_until}
-use Rattle.sb_replica.specs.inner.Batches.{EndsBatch, ReceivesBatch, ReceivesEntries, IsRefusedAmong, LooksUp, TakesEntries, after_batch, batch_end, entry_frame, entry_op}
+use Rattle.sb_replica.proofs.EntriesAhead.{all_behind, as_long, handed_before}
+use Rattle.sb_replica.proofs.ReceivedStreams.{then_fault, then_until}
+use Rattle.sb_replica.specs.inner.Batches.{EndsBatch, ReceivesBatch, ReceivesEntries, IsRefusedAmong, TakesEntries, after_batch, batch_end, behind, entry_frame, entry_op}
 use Rattle.sb_replica.specs.Frames.{entry_answer}
 use Rattle.sb_replica.specs.inner.ReplicaInvariant.{IsReplica}
 use Rattle.sb_replica.specs.Replica.{ReplicaOf, log_of, with_log}
-use Rattle.sb_replica.specs.Streams.{FailsHere, HandsOutAll, ReceivesAll, ReceivesUntil, ReceivesUntilFault, IsEntryInTime, StartsWithNext, frames_of}
+use Rattle.sb_replica.specs.Streams.{FailsHere, HandsOutAll, ReceivesAll, ReceivesUntil, ReceivesUntilFault, IsEntryInTime, HasNext}
 use Rattle.sb_replica.specs.declared.fault.ReceiveFault.TheVariants as fault
 use Rattle.sb_replica.specs.declared.pause.Pause.{Pause}
 use Rattle.sb_replica.specs.declared.pause.Pause.TheVariants.{Short, Other, Busy}
-use Rattle.sb_replica.specs.declared.streams.TheConstants.{BATCH_ENTRIES}
 
 -- ---- entries
-
--- a batch is as long as its entries
-as_long : (names : List (List ℕ)) (entries : List (ℕ × Call)) (batch : List EntryOp) → batch ≡ map (entry_op names) entries
-    → length entries ≡ length batch
-as_long names entries batch is = sym (ap length is ∙ length-map entries (entry_op names))
 
 entries_heard : {S : Type 0} (old new : ReplicaOf S) (from rest : StreamState) (batch : List EntryOp) → TakesEntries old.names from batch rest
     → unfinished_of old.board + length batch ≤ OPEN_BEHAVIOURS → new ≡ with_log old (after_batch (log_of old) batch) → ReceivesEntries old from new rest
@@ -89,96 +85,73 @@ stopped old new from behind rest why h fails =
       entries = [];
       in_time = All-nil IsEntryInTime;
       all_received = refl;
-      lost = [];
       behind = behind;
       handed_out = refl;
-      why = (refl, fails);
+      why = fails;
     })
 
 -- ---- memory that is refused among them
 
--- the frames behind a batch that were taken too, if this many entries were taken
-record Ending (behind rest : StreamState) (n limit : ℕ) : Type 0 where
-  last : List Frame
-  after : StreamState
-  handed_out : HandsOutAll behind last after
-  few : n + length last ≤ limit
-  stops : (rest ≡ after) ⊎ ((failed : StreamFault) × FailsHere after failed rest)
-
 some_not_none : {pause : Pause} → ◌≡◌ {A = Result (Option Pause) StreamFault} (Ok (Some pause)) (Ok None) → ⊥
 some_not_none e = cc
 
-ending : (behind rest : StreamState) (answer : Result (Option Pause) StreamFault) (n limit : ℕ) → EndsBatch behind answer rest
-    → (answer ≡ Ok None → n ≡ limit) → (answer ≢ Ok None → n < limit) → Ending behind rest n limit
-ending behind rest (Ok None) n limit ends whole early =
-    let all = whole refl in
-    record { last = []; after = behind; handed_out = refl; few = omega (arith, all); stops = inl ends }
-ending behind rest (Ok (Some Short)) n limit ends whole early =
-    let less = early some_not_none in
-    record { last = []; after = behind; handed_out = refl; few = omega (arith, less); stops = inl ends.1 }
-ending behind rest (Ok (Some (Other frame))) n limit ends whole early =
-    let less = early some_not_none in
-    record { last = frame ∷ []; after = rest; handed_out = ends.0; few = omega (arith, less); stops = inl refl }
-ending behind rest (Ok (Some Busy)) n limit ends whole early = elim ends [ ]
-ending behind rest (Err why) n limit ends whole early =
-    let less = early (λ e. cc) in
-    record { last = []; after = behind; handed_out = refl; few = omega (arith, less); stops = inr (why, ends) }
+at_limit : (here rest : StreamState) (answer : Result (Option Pause) StreamFault) → answer ≡ Ok None → EndsBatch here answer rest → rest ≡ here
+at_limit here rest (Ok None) none ends = ends
+at_limit here rest (Ok (Some pause)) none ends = absurd (some_not_none none)
+at_limit here rest (Err why) none ends = absurd cc
 
 some_is : {x y : EntryOp} → ◌≡◌ {A = Option EntryOp} (Some x) (Some y) → x ≡ y
 some_is e = cc
 
--- the entry that memory was refused for is the first that wasn't heard
-first_lost : (names : List (List ℕ)) (board : BoardOf Op) (entries : List (ℕ × Call)) (place : ℕ) (entry : EntryOp) (last : List Frame)
-    → slice_get (map (entry_op names) entries) place ≡ Some entry → offer_answer board entry.number ≡ offer.Next
-    → StartsWithNext board (map entry_frame (drop place entries) ++ last)
-first_lost names board [] place entry last there is = absurd cc
-first_lost names board (e ∷ others) zero entry last there is =
+-- the entry that memory was refused for still stands in the stream
+still_there : (names : List (List ℕ)) (board : BoardOf Op) (entries : List (ℕ × Call)) (from ahead : StreamState) (place : ℕ) (entry : EntryOp)
+    → HandsOutAll from (map entry_frame entries) ahead → slice_get (map (entry_op names) entries) place ≡ Some entry
+    → offer_answer board entry.number ≡ offer.Next → HasNext board (behind place from)
+still_there names board [] from ahead place entry h there is = absurd cc
+still_there names board (e ∷ others) from ahead zero entry h there is =
     let number : entry.number ≡ e.0 = ap (λ (x : EntryOp). x.number) (sym (some_is there)) in
-    (e.0, ap (entry_answer e.0) (ap (offer_answer board) (sym number) ∙ is))
-first_lost names board (e ∷ others) (suc place) entry last there is = first_lost names board others place entry last there is
+    record {
+      frame = entry_frame e;
+      after = h.0;
+      next = sym h.1;
+      number = e.0;
+      answer = ap (entry_answer e.0) (ap (offer_answer board) (sym number) ∙ is);
+    }
+still_there names board (e ∷ others) from ahead (suc place) entry h there is =
+    subst (λ (s : StreamState). HasNext board (behind place s)) (ap (λ a. a.1) h.1)
+    (still_there names board others h.0 ahead place entry h.2 there is)
 
-pub refused : {S : Type 0} (old new : ReplicaOf S) (log : LogOf) (from rest : StreamState) (batch : List EntryOp)
-    (answer : Result (Option Pause) StreamFault) (limit : ℕ) → LooksUp old.names from batch answer rest
-    → (answer ≡ Ok None → length batch ≡ limit) → (answer ≢ Ok None → length batch < limit) → limit ≤ BATCH_ENTRIES
-    → unfinished_of old.board + limit ≤ OPEN_BEHAVIOURS → IsRefusedAmong (log_of old) batch log → new ≡ with_log old log
+pub refused : {S : Type 0} (old new : ReplicaOf S) (log : LogOf) (from ahead rest : StreamState) (batch : List EntryOp)
+    (limit : ℕ) → TakesEntries old.names from batch ahead → length batch ≤ limit
+    → unfinished_of old.board + limit ≤ OPEN_BEHAVIOURS → IsRefusedAmong (log_of old) from batch log rest → new ≡ with_log old log
     → ReceivesUntilFault old from fault.OutOfMemory new rest
-refused {S} old new log from rest batch answer limit looks whole early few room h is =
-    let entries = looks.takes.entries in
+refused {S} old new log from ahead rest batch limit takes few room h is =
+    let entries = takes.entries in
     let op = entry_op old.names in
     let place = h.index in
-    let tail = ending looks.behind rest answer (length batch) limit looks.ends whole early in
-    let long = as_long old.names entries batch looks.takes.looked_up in
+    let long = as_long old.names entries batch takes.looked_up in
     let first = take place entries in
-    let others = drop place entries in
     let short = length-take place entries in
-    let left = length-drop place entries in
     let all = are_heard old first (subst (λ (frames : List Frame). All IsFrame frames) (take-map entry_frame place entries)
-    (All-take IsFrame place (map entry_frame entries) looks.takes.valid)) (omega (arith, tail.few, long, short, room)) in
+    (All-take IsFrame place (map entry_frame entries) takes.valid)) (omega (arith, few, long, short, room)) in
     let here : with_log old (after_batch (log_of old) (map op first)) ≡ new =
     ap (λ (ops : List EntryOp). with_log old (after_batch (log_of old) ops))
-    (sym (take-map op place entries) ∙ ap (take place) (sym looks.takes.looked_up))
+    (sym (take-map op place entries) ∙ ap (take place) (sym takes.looked_up))
     ∙ ap (with_log old) (sym h.before) ∙ sym is in
     let board : log.board ≡ new.board = ap (λ (r : ReplicaOf S). r.board) (sym is) in
-    let lost = map entry_frame others ++ tail.last in
-    let split : map entry_frame entries ++ tail.last ≡ frames_of all.all ++ lost =
-    ap (λ (es : List (ℕ × Call)). map entry_frame es ++ tail.last) (sym (take-append-drop place entries))
-    ∙ ap (λ (frames : List Frame). frames ++ tail.last) (map-append entry_frame first others)
-    ∙ append_assoc (map entry_frame first) (map entry_frame others) tail.last
-    ∙ ap (λ (frames : List Frame). frames ++ lost) (sym all.same) in
+    let there : slice_get (map op entries) place ≡ Some h.entry = ap (λ (ops : List EntryOp). slice_get ops place) (sym takes.looked_up) ∙ h.there in
+    let within : place ≤ length entries = omega (arith, slice_get_within (map op entries) place h.entry there, length-map entries op) in
     record {
       entries = all.all;
       in_time = all.in_time;
       all_received = subst (λ (r : ReplicaOf S). ReceivesAll old all.all r) here all.all_received;
-      lost = lost;
-      behind = tail.after;
-      handed_out = subst (λ (frames : List Frame). HandsOutAll from frames tail.after) split
-          (handed_append (map entry_frame entries) tail.last from looks.behind tail.after looks.takes.handed_out tail.handed_out);
+      behind = behind place from;
+      handed_out = subst (λ (frames : List Frame). HandsOutAll from frames (behind place from)) (sym all.same)
+          (handed_before place entries from ahead takes.handed_out within);
       why = (
-        subst (λ (b : BoardOf Op). StartsWithNext b lost) board
-            (first_lost old.names log.board entries place h.entry tail.last
-            (ap (λ (ops : List EntryOp). slice_get ops place) (sym looks.takes.looked_up) ∙ h.there) h.next),
-        omega (arith, tail.few, few, long, left, length-append (map entry_frame others) tail.last, length-map others entry_frame),
-        tail.stops,
+        subst (λ (b : BoardOf Op). HasNext b (behind place from)) board
+            (still_there old.names log.board entries from ahead place h.entry takes.handed_out there h.next),
+        h.skipped,
       );
     }
 
@@ -197,19 +170,24 @@ by_end old new from behind rest (Ok (Some pause)) h ends less room =
     )
 by_end old new from behind rest (Err why) h ends less room = stopped old new from behind rest why h ends
 
-pub batch_heard : {S : Type 0} (old new : ReplicaOf S) (log : LogOf) (from rest : StreamState) (batch : List EntryOp)
-    (answer : Result (Option Pause) StreamFault) (limit : ℕ) → LooksUp old.names from batch answer rest
+pub batch_heard : {S : Type 0} (old new : ReplicaOf S) (log : LogOf) (from ahead here rest : StreamState) (batch : List EntryOp)
+    (answer : Result (Option Pause) StreamFault) (limit : ℕ) → TakesEntries old.names from batch ahead → here ≡ behind (length batch) from
+    → EndsBatch here answer rest → length batch ≤ limit
     → (answer ≡ Ok None → length batch ≡ limit) → (answer ≢ Ok None → length batch < limit)
-    → length rest.unread + length batch ≤ length from.unread → 0 < limit
+    → length ahead.unread + length batch ≤ length from.unread → 0 < limit
     → unfinished_of old.board + limit ≤ OPEN_BEHAVIOURS → log ≡ after_batch (log_of old) batch → new ≡ with_log old log
     → ReceivesBatch old from (batch_end answer) new rest
-batch_heard {S} old new log from rest batch answer limit looks whole early less some room after is =
-    let here : new ≡ with_log old (after_batch (log_of old) batch) = is ∙ ap (with_log old) after in
-    let board : unfinished_of new.board ≡ unfinished_of (after_batch (log_of old) batch).board = ap (λ (r : ReplicaOf S). unfinished_of r.board) here in
+batch_heard {S} old new log from ahead here rest batch answer limit takes skipped ends few whole early less some room after is =
+    let now : new ≡ with_log old (after_batch (log_of old) batch) = is ∙ ap (with_log old) after in
+    let board : unfinished_of new.board ≡ unfinished_of (after_batch (log_of old) batch).board = ap (λ (r : ReplicaOf S). unfinished_of r.board) now in
     let more = opens (log_of old) batch in
-    let short = (ending looks.behind rest answer (length batch) limit looks.ends whole early).few in
-    let heard = entries_heard old new from looks.behind batch looks.takes (omega (arith, short, room)) here in
-    by_end old new from looks.behind rest answer heard looks.ends (λ all. let full = whole all in omega (arith, full, less, some))
+    let heard = entries_heard old new from ahead batch takes (omega (arith, few, room)) now in
+    let same : ahead ≡ here = all_behind old.names batch from ahead takes ∙ sym skipped in
+    let left : length ahead.unread ≡ length here.unread = ap (λ (s : StreamState). length s.unread) same in
+    by_end old new from here rest answer (subst (λ (s : StreamState). ReceivesEntries old from new s) same heard) ends
+    (λ all. let full = whole all in
+    let stays = ap (λ (s : StreamState). length s.unread) (at_limit here rest answer all ends) in
+    omega (arith, full, less, some, left, stays))
     (λ not_all. let fewer = early not_all in omega (arith, fewer, board, more, room))
 
 -- ---- what a batch keeps
@@ -224,7 +202,9 @@ after_stays old log batch h is =
       base_replies = subst (λ (replies : List Reply). All IsReply replies) (sym (ap (λ (l : LogOf). l.board.base_replies) is ∙ stays.1)) h.base_replies;
     }
 
-pub batch_keeps : {S : Type 0} {E : Type 0} (old : ReplicaOf S) (log : LogOf) (batch : List EntryOp) (answer : Result (Unit {0}) E) → IsReplica old
-    → MatchResult answer (λ done. log ≡ after_batch (log_of old) batch) (λ why. IsRefusedAmong (log_of old) batch log) → IsReplica (with_log old log)
-batch_keeps old log batch (Ok done) h offer_answer = after_stays old log batch h offer_answer
-batch_keeps old log batch (Err why) h offer_answer = after_stays old log (take offer_answer.index batch) h offer_answer.before
+pub batch_keeps : {S : Type 0} {E : Type 0} (old : ReplicaOf S) (log : LogOf) (from rest : StreamState) (batch : List EntryOp)
+    (answer : Result (Unit {0}) E) → IsReplica old
+    → MatchResult answer (λ done. (log ≡ after_batch (log_of old) batch) × (rest ≡ behind (length batch) from))
+    (λ why. IsRefusedAmong (log_of old) from batch log rest) → IsReplica (with_log old log)
+batch_keeps old log from rest batch (Ok done) h offered = after_stays old log batch h offered.0
+batch_keeps old log from rest batch (Err why) h offered = after_stays old log (take offered.index batch) h offered.before

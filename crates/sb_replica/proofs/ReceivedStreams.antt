@@ -1,5 +1,5 @@
 -- What a stream handed out and a replica heard, part by part.
-use Rattle.std.proofs.Common.{◌≡◌, Some, Ok, List, [], ◌∷◌, ◌++◌, map, sym, ap, subst, ◌∙◌, append_assoc}
+use Rattle.std.proofs.Common.{◌≡◌, Some, Ok, List, [], ◌∷◌, ◌++◌, map, sym, subst, append_assoc}
 use Rattle.std.proofs.lemmas.List.{map-append}
 use Rattle.std.proofs.lemmas.List.Elements.{All-append}
 use Rattle.sb_frames.specs.Streaming.{StreamCall, StreamState, Next, StepsTo}
@@ -8,6 +8,7 @@ use Rattle.sb_replica.specs.inner.Batches.{ReceivesEntries}
 use Rattle.sb_replica.specs.Replica.{ReplicaOf}
 use Rattle.sb_replica.specs.Streams.{HandsOutAll, ReceivedFrame, ReceivesAll, ReceivesUntil, ReceivesUntilFault, IsEntryInTime, frames_of, last_frame}
 use Rattle.sb_replica.specs.declared.fault.ReceiveFault.{ReceiveFault}
+use Rattle.sb_replica.specs.declared.fault.ReceiveFault.TheVariants.{OutOfMemory}
 use Rattle.sb_replica.specs.declared.pause.Pause.{Pause}
 
 -- ---- one part after another
@@ -30,6 +31,15 @@ hears_append (x ∷ xs) ys a b c h k = (h.0, h.1, hears_append xs ys h.0 b c h.2
 
 pub frames_append : (xs ys : List ReceivedFrame) → frames_of (xs ++ ys) ≡ frames_of xs ++ frames_of ys
 frames_append xs ys = map-append (λ (one : ReceivedFrame). one.frame) xs ys
+
+-- all that was received before memory was refused
+pub received_before : {S : Type 0} {a b : ReplicaOf S} {s t : StreamState} → ReceivesUntilFault a s OutOfMemory b t → ReceivesEntries a s b t
+received_before {s = s} h = record {
+  entries = h.entries;
+  in_time = h.in_time;
+  handed_out = subst (λ (rest : StreamState). HandsOutAll s (frames_of h.entries) rest) (sym h.why.1) h.handed_out;
+  all_received = h.all_received;
+}
 
 module _ {S : Type 0} {a b c : ReplicaOf S} {s t u : StreamState} where
   pub then_entries : ReceivesEntries a s b t → ReceivesEntries b t c u → ReceivesEntries a s c u
@@ -57,17 +67,12 @@ module _ {S : Type 0} {a b c : ReplicaOf S} {s t u : StreamState} where
       }
 
   pub then_fault : {fault : ReceiveFault} → ReceivesEntries a s b t → ReceivesUntilFault b t fault c u → ReceivesUntilFault a s fault c u
-  then_fault h k =
-      let before = frames_of h.entries in
-      record {
-        entries = h.entries ++ k.entries;
-        in_time = All-append IsEntryInTime h.entries k.entries h.in_time k.in_time;
-        all_received = hears_append h.entries k.entries a b c h.all_received k.all_received;
-        lost = k.lost;
-        behind = k.behind;
-        handed_out = subst (λ (frames : List Frame). HandsOutAll s frames k.behind)
-            (sym (append_assoc before (frames_of k.entries) k.lost)
-            ∙ ap (λ (frames : List Frame). frames ++ k.lost) (sym (frames_append h.entries k.entries)))
-            (handed_append before (frames_of k.entries ++ k.lost) s t k.behind h.handed_out k.handed_out);
-        why = k.why;
-      }
+  then_fault h k = record {
+    entries = h.entries ++ k.entries;
+    in_time = All-append IsEntryInTime h.entries k.entries h.in_time k.in_time;
+    all_received = hears_append h.entries k.entries a b c h.all_received k.all_received;
+    behind = k.behind;
+    handed_out = subst (λ (frames : List Frame). HandsOutAll s frames k.behind) (sym (frames_append h.entries k.entries))
+        (handed_append (frames_of h.entries) (frames_of k.entries) s t k.behind h.handed_out k.handed_out);
+    why = k.why;
+  }

@@ -1,11 +1,11 @@
 -- What a replica receives from a stream of frames.
-use Rattle.std.specs.Prelude.{◌≡◌, ◌≢◌, ◌⊎◌, ℕ, ◌≤◌, true, Some, Ok, List, [], ◌∷◌, ◌++◌, map, length}
+use Rattle.std.specs.Prelude.{◌≡◌, ◌≢◌, ℕ, true, Some, Ok, List, [], ◌∷◌, ◌++◌, map}
 use Rattle.std.specs.List.{All}
 use Rattle.sb_calls.specs.declared.op.Op.{Op}
 use Rattle.cown_board.specs.Board.{BoardOf, unfinished_of}
 use Rattle.cown_board.specs.declared.board.TheConstants.{OPEN_BEHAVIOURS}
 use Rattle.sb_frames.specs.Grammar.{spelling}
-use Rattle.sb_frames.specs.Streaming.{StreamState, Next, StepsTo, IsShort, FailsBy}
+use Rattle.sb_frames.specs.Streaming.{StreamState, Next, StepsTo, IsShort, FailsBy, next_of}
 use Rattle.sb_frames.specs.declared.fault.StreamFault.{StreamFault}
 use Rattle.sb_frames.specs.declared.frame.Frame.{Frame}
 use Rattle.sb_frames.specs.declared.frame.Frame.TheVariants.{Ask, Entry, Ack, Answer, Outcome, Flush, Have}
@@ -17,7 +17,6 @@ use Rattle.sb_replica.specs.declared.heard.Heard.{Heard}
 use Rattle.sb_replica.specs.declared.heard.Heard.TheVariants.{Accepted, Busy, Ignored}
 use Rattle.sb_replica.specs.declared.pause.Pause.{Pause}
 use Rattle.sb_replica.specs.declared.pause.Pause.TheVariants as pause
-use Rattle.sb_replica.specs.declared.streams.TheConstants.{BATCH_ENTRIES}
 
 -- a frame, with the replica's answer to it
 pub record ReceivedFrame : Type 0 where
@@ -71,31 +70,30 @@ pub record ReceivesUntil {S : Type 0} (old : ReplicaOf S) (from : StreamState) (
   pub all_received : ReceivesAll old (entries ++ last_frame pause) new
   pub why : IsPause rest new.board pause
 
--- the first of these frames is an entry that would be accepted
-abbrev pub StartsWithNext : BoardOf Op → List Frame → Type 0
-StartsWithNext board [] = ⊥
-StartsWithNext board (frame ∷ others) = (number : ℕ) × (frame_answer board frame ≡ Accepted number)
-
 -- the stream fails here
 abbrev pub FailsHere : StreamState → StreamFault → StreamState → Type 0
 FailsHere old fault new = FailsBy old fault × (new ≡ record old { failed = true })
 
--- why receiving stops with a fault on this board; these frames were handed out but not received,
--- and the stream was as it is behind them
-abbrev pub StopsReceiving : BoardOf Op → List Frame → StreamState → ReceiveFault → StreamState → Type 0
--- the stream failed, and no frame is lost
-StopsReceiving board lost old (fault.Stream failed) new = (lost ≡ []) × FailsHere old failed new
--- memory was refused for the first lost frame; the stream may have failed behind the last
-StopsReceiving board lost old fault.OutOfMemory new = StartsWithNext board lost × (length lost ≤ BATCH_ENTRIES)
-    × ((new ≡ old) ⊎ ((failed : StreamFault) × FailsHere old failed new))
+-- the next frame of the stream is an entry that the board would accept
+pub record HasNext (board : BoardOf Op) (stream : StreamState) : Type 0 where
+  pub frame : Frame
+  pub after : StreamState
+  pub next : next_of stream ≡ (Ok (Some frame), after)
+  pub number : ℕ
+  pub answer : frame_answer board frame ≡ Accepted number
 
--- entries were handed out and received, and then receiving stopped with a fault
+-- why receiving stops with a fault: the stream fails here; or memory was refused for its next
+-- frame, and it stays as it is
+abbrev pub StopsReceiving : BoardOf Op → StreamState → ReceiveFault → StreamState → Type 0
+StopsReceiving board old (fault.Stream failed) new = FailsHere old failed new
+StopsReceiving board old fault.OutOfMemory new = HasNext board old × (new ≡ old)
+
+-- entries were handed out and received, and then receiving stopped with a fault; no frame is lost
 pub record ReceivesUntilFault {S : Type 0} (old : ReplicaOf S) (from : StreamState) (fault : ReceiveFault)
     (new : ReplicaOf S) (rest : StreamState) : Type 0 where
   pub entries : List ReceivedFrame
   pub in_time : All IsEntryInTime entries
-  pub all_received : ReceivesAll old entries new
-  pub lost : List Frame
   pub behind : StreamState
-  pub handed_out : HandsOutAll from (frames_of entries ++ lost) behind
-  pub why : StopsReceiving new.board lost behind fault rest
+  pub handed_out : HandsOutAll from (frames_of entries) behind
+  pub all_received : ReceivesAll old entries new
+  pub why : StopsReceiving new.board behind fault rest

@@ -40,7 +40,7 @@ pub enum ReceiveFault {
     /// The stream failed, and fails from then on. Everything that it handed out was received.
     #[error("{0}")]
     Stream(StreamFault),
-    /// Memory was refused for an entry. That entry and the frames taken behind it are lost.
+    /// Memory was refused for an entry. It still stands in the stream, with all that is behind it.
     #[error("out of memory")]
     OutOfMemory,
 }

@@ -17,7 +17,7 @@ mod streams;
 pub use adopted::Adopted;
 pub use fault::{AdoptFault, MarkFault, ReceiveFault, ReplicaFault, RestartFault};
 pub use heard::Heard;
-pub use laws::limits;
+pub use laws::{limits, receiving_goes_on};
 pub use pause::Pause;
 pub use replica::Replica;
 pub use streams::BATCH_ENTRIES;

@@ -174,7 +174,7 @@ impl<S: CheckpointStore> Replica<S> {
     }
 
     /// What the store holds, as [`CheckpointStore::get`] answers.
-    pub fn store_content(&mut self) -> Result<Option<Vec<u8>>, StoreFault>
+    pub fn stored(&mut self) -> Result<Option<Vec<u8>>, StoreFault>
         ensures got { MatchResult result
             (λ content. StoreDoes S.model self.old.store
             (Get (option_map (λ bytes. bytes.items) content)) self.new.store)

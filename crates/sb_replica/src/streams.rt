@@ -1,10 +1,10 @@
 //! Frames from a stream.
-ghost use Rattle.std.specs.Prelude.{◌≡◌, ◌≢◌, ◌↔◌, ◌<◌, ◌≤◌, ◌+◌, [], Ok, Some, None, IfOk, MatchResult, length};
+ghost use Rattle.std.specs.Prelude.{◌≡◌, ◌≢◌, ◌↔◌, ◌<◌, ◌≤◌, ◌+◌, [], Ok, None, true, false, IfOk, MatchResult, length};
 ghost use Rattle.cown_board.specs.Board.{unfinished_of};
 ghost use Rattle.sb_frames.specs.Entries.{HasEntry};
 ghost use Rattle.sb_replica.specs.inner.Batches as spec;
-ghost use Rattle.sb_replica.specs.inner.Batches.{AreWithin, EndsBatch, ReceivesBatch, IsRefusedAmong, LooksUp, after_batch};
-ghost use Rattle.sb_replica.specs.Streams.{FailsHere, ReceivesUntil, ReceivesUntilFault};
+ghost use Rattle.sb_replica.specs.inner.Batches.{AreEntriesNext, AreWithin, EndsBatch, ReceivesBatch, IsRefusedAmong, TakesEntries, after_batch, behind};
+ghost use Rattle.sb_replica.specs.Streams.{ReceivesUntil, ReceivesUntilFault};
 
 use crate::fault::ReceiveFault;
 use crate::pause::Pause;
@@ -12,7 +12,7 @@ use crate::replica::Replica;
 use arrayvec::ArrayVec;
 use cown_board::OPEN_BEHAVIOURS;
 use sb_checkpoint::CheckpointStore;
-use sb_frames::{EntryOp, Stream, StreamFault};
+use sb_frames::{EntryOp, Lookahead, Stream, StreamFault};
 use sb_replica_log::ReplicaLog;
 use sb_rows::Directory;
 use std::alloc::AllocError;
@@ -22,60 +22,58 @@ pub const BATCH_ENTRIES: usize = 64;
 
 type Batch = ArrayVec<EntryOp, BATCH_ENTRIES>;
 
-// Why a batch ends where the stream has no entry.
-fn pause_at(stream: &mut Stream) -> Result<Pause, StreamFault>
-    requires { ¬ HasEntry stream.old }
-    ensures outcome { MatchResult result
-        (λ pause. EndsBatch stream.old (Ok (Some pause)) stream.new)
-        (λ fault. FailsHere stream.old fault stream.new) }
-    ensures consumes_bytes { length stream.new.unread ≤ length stream.old.unread }
-{
-    match stream.next()? {
-        Some(frame) => Ok(Pause::Other(frame)),
-        None => Ok(Pause::Short),
-    }
-}
-
-// Takes entries from a stream, up to a limit, and looks up their names. Answers what ended it
-// before the limit.
-fn look_up(
-    directory: &Directory,
-    stream: &mut Stream,
-    limit: usize,
-    batch: &mut Batch,
-) -> Result<Option<Pause>, StreamFault>
+// Reads entries ahead, up to a limit, and looks up their names.
+fn look_up(directory: &Directory, lookahead: &mut Lookahead, limit: usize, batch: &mut Batch)
     requires empty { batch.old.items ≡ [] }
     requires limit { limit ≤ BATCH_ENTRIES }
-    ensures looks_up { LooksUp directory.now stream.old batch.new.items result stream.new }
+    ensures reads { TakesEntries directory.now lookahead.old batch.new.items lookahead.new }
     ensures within { AreWithin (length directory.now) batch.new.items }
-    ensures batch_is_full { result ≡ Ok None → length batch.new.items ≡ limit }
-    ensures batch_is_short { result ≢ Ok None → length batch.new.items < limit }
-    ensures consumes_bytes { length stream.new.unread + length batch.new.items ≤ length stream.old.unread }
+    ensures limit { length batch.new.items ≤ limit }
+    ensures batch_is_short { length batch.new.items < limit → ¬ HasEntry lookahead.new }
+    ensures consumes_bytes { length lookahead.new.unread + length batch.new.items ≤ length lookahead.old.unread }
 {
     for taken in 0..limit {
-        match stream.next_entry(directory) {
+        match lookahead.next_entry(directory) {
             // By its fields, since the proof of this function needs the op's type in it.
             Some(EntryOp { number, op }) => batch.push(EntryOp { number, op }),
-            None => return Ok(Some(pause_at(stream)?)),
+            None => return,
         }
     }
-    Ok(None)
 }
 
-// Offers entries in order, and stops at the first for which memory is refused.
-fn offer_all(log: &mut ReplicaLog, batch: &[EntryOp]) -> Result<(), AllocError>
-    requires { AreWithin (length log.old.board.opening.savings) batch.now }
+// Offers the next entries of a stream in order, and skips each there once the log has answered it.
+// Stops before the first for which memory is refused.
+fn offer_all(log: &mut ReplicaLog, stream: &mut Stream, batch: &[EntryOp]) -> Result<(), AllocError>
+    requires within { AreWithin (length log.old.board.opening.savings) batch.now }
+    requires next { AreEntriesNext (length batch.now) stream.old }
     ensures { MatchResult result
-        (λ done. log.new ≡ after_batch log.old batch.now)
-        (λ refused. IsRefusedAmong log.old batch.now log.new) }
+        (λ done. (log.new ≡ after_batch log.old batch.now) × (stream.new ≡ behind (length batch.now) stream.old))
+        (λ refused. IsRefusedAmong log.old stream.old batch.now log.new stream.new) }
 {
     for entry in batch {
         log.offer_entry(entry.number, entry.op)?;
+        stream.skip_entry();
     }
     Ok(())
 }
 
-// What ended the batch, once all its entries are received.
+// What ends a batch: nothing if it is full, and else what the stream has instead of an entry.
+fn end_of(stream: &mut Stream, is_full: bool) -> Result<Option<Pause>, StreamFault>
+    requires { is_full ≡ false → ¬ HasEntry stream.old }
+    ensures ends { EndsBatch stream.old result stream.new }
+    ensures full { is_full ≡ true → result ≡ Ok None }
+    ensures short { is_full ≡ false → result ≢ Ok None }
+{
+    if is_full {
+        return Ok(None);
+    }
+    match stream.next()? {
+        Some(frame) => Ok(Some(Pause::Other(frame))),
+        None => Ok(Some(Pause::Short)),
+    }
+}
+
+// What ended a batch, as a call reports it.
 fn batch_end(end: Result<Option<Pause>, StreamFault>) -> Result<Option<Pause>, ReceiveFault>
     ensures { result ≡ spec.batch_end end }
 {
@@ -95,8 +93,8 @@ impl<S: CheckpointStore> Replica<S> {
     /// unfinished as the limit allows. The caller then lets some finish and calls again.
     ///
     /// Fails with the stream's fault, after all that came before was received. Fails if memory is
-    /// refused for an entry: everything before it was received, and it is lost, with up to 63
-    /// frames taken behind it.
+    /// refused for an entry: everything before it was received, and it still stands in the stream,
+    /// with all that is behind it. So no frame is lost, and a later call goes on with that entry.
     pub fn receive_stream(&mut self, stream: &mut Stream) -> Result<Pause, ReceiveFault>
         ensures outcome { MatchResult result
             (λ pause. ReceivesUntil self.old stream.old pause self.new stream.new)
@@ -120,10 +118,12 @@ impl<S: CheckpointStore> Replica<S> {
         if room == 0 {
             return Ok(Some(Pause::Busy));
         }
+        let limit = room.min(BATCH_ENTRIES);
         let mut batch = Batch::new();
-        let end = look_up(&self.directory, stream, room.min(BATCH_ENTRIES), &mut batch);
-        match offer_all(&mut self.log, batch.as_slice()) {
-            Ok(()) => batch_end(end),
+        look_up(&self.directory, &mut stream.lookahead(), limit, &mut batch);
+        let entries = batch.as_slice();
+        match offer_all(&mut self.log, stream, entries) {
+            Ok(()) => batch_end(end_of(stream, entries.len() == limit)),
             Err(_) => Err(ReceiveFault::OutOfMemory),
         }
     }

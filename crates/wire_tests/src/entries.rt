@@ -100,6 +100,26 @@ fn entries_one_behind_another(rt: HostRuntime) {
     assert!(rt; stream.ended());
 }
 
+// What is read ahead is still handed out, to the last.
+#[test]
+fn entries_that_are_read_ahead_stay(rt: HostRuntime) {
+    let directory = directory(&rt);
+    let mut stream = Stream::new(rt.alloc());
+    for (number, call) in (0..).zip(calls(&rt)) {
+        assert!(rt; stream.feed(&encode(&entry(number, &call))) == Ok(()));
+    }
+    let mut lookahead = stream.lookahead();
+    for (number, call) in (0..).zip(calls(&rt)) {
+        let op = resolve(&directory, &call);
+        assert!(rt; lookahead.next_entry(&directory) == Some(EntryOp { number, op }));
+    }
+    assert!(rt; lookahead.next_entry(&directory).is_none());
+    for (number, call) in (0..).zip(calls(&rt)) {
+        assert!(rt; stream.next() == Ok(Some(entry(number, &call))));
+    }
+    assert!(rt; stream.ended());
+}
+
 // A frame that is no entry stays for `Stream::next`.
 #[test]
 fn other_frames_stay(rt: HostRuntime) {

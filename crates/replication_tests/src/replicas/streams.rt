@@ -244,6 +244,31 @@ fn no_entry_is_taken_while_too_many_are_unfinished(rt: HostRuntime) {
     receives_so(&rt, &mut other, 3, &short);
 }
 
+// What was read ahead and not received is still handed out by the stream itself.
+#[test]
+fn what_is_not_received_stays_in_the_stream(rt: HostRuntime) {
+    let bytes = spelled(&rt, &entries_up_to(&rt, 1_100));
+    let mut other = new_stream_node(&rt);
+    let busy = StreamCase {
+        bytes: &bytes,
+        answer: Ok(Pause::Busy),
+        length: 1_024,
+    };
+    receives_so(&rt, &mut other, 0, &busy);
+    runs(&rt, &mut other.node.replica, 1, Reply::Done);
+    let again = StreamCase {
+        bytes: &[],
+        answer: Ok(Pause::Busy),
+        length: 1_025,
+    };
+    receives_so(&rt, &mut other, 1, &again);
+    for number in 1_026..1_101 {
+        let next = entry(&rt, number, "deposit alice 0.01");
+        assert!(rt; other.stream.next() == Ok(Some(next)), "{number}");
+    }
+    assert!(rt; other.stream.ended());
+}
+
 // No more bytes are fed.
 fn fails_so(rt: &impl Abort, other: &mut StreamNode, fault: ReceiveFault) {
     let answered = other.node.replica.receive_stream(&mut other.stream);

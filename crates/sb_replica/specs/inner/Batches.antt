@@ -1,12 +1,13 @@
 -- Entries that are looked up before the first of them is offered.
-use Rattle.std.specs.Prelude.{◌≡◌, ◌↔◌, ◌<◌, ℕ, length, Option, Some, None, Result, Ok, Err, List, [], ◌∷◌, map, slice_get, take}
+use Rattle.std.specs.Prelude.{◌≡◌, ◌↔◌, ◌<◌, ℕ, zero, suc, length, Option, Some, None, Result, Ok, Err, List, [], ◌∷◌, map, slice_get, take}
 use Rattle.std.specs.List.{All}
 use Rattle.sb_calls.specs.Op.{IsOpWithin, op_of}
 use Rattle.sb_calls.specs.declared.call.Call.{Call}
 use Rattle.cown_board.specs.Board.{unfinished_of}
 use Rattle.cown_board.specs.declared.board.TheConstants.{OPEN_BEHAVIOURS}
+use Rattle.sb_frames.specs.Entries.{HasEntry}
 use Rattle.sb_frames.specs.Grammar.{IsFrame}
-use Rattle.sb_frames.specs.Streaming.{StreamState, IsShort}
+use Rattle.sb_frames.specs.Streaming.{StreamState, IsShort, next_of}
 use Rattle.sb_frames.specs.declared.entry_op.EntryOp.{EntryOp}
 use Rattle.sb_frames.specs.declared.fault.StreamFault.{StreamFault}
 use Rattle.sb_frames.specs.declared.frame.Frame.{Frame}
@@ -50,26 +51,31 @@ EndsBatch old (Ok (Some (Other frame))) new =
 EndsBatch old (Ok (Some Busy)) new = ⊥
 EndsBatch old (Err fault) new = FailsHere old fault new
 
-pub record LooksUp (names : List (List ℕ)) (old : StreamState) (batch : List EntryOp)
-    (answer : Result (Option Pause) StreamFault) (new : StreamState) : Type 0 where
-  pub behind : StreamState
-  pub takes : TakesEntries names old batch behind
-  pub ends : EndsBatch behind answer new
-
 -- the log after these entries were offered in order
 abbrev pub after_batch : LogOf → List EntryOp → LogOf
 after_batch log [] = log
 after_batch log (entry ∷ others) =
     after_batch (after_offer log entry.op (offer_answer log.board entry.number)) others
 
--- the entries before this one were offered; this one is the log's next, and memory was refused for
--- it
-pub record IsRefusedAmong (old : LogOf) (batch : List EntryOp) (new : LogOf) : Type 0 where
+-- a stream behind its next frames, this many
+abbrev pub behind : ℕ → StreamState → StreamState
+behind zero stream = stream
+behind (suc count) stream = behind count (next_of stream).1
+
+-- the next frames of a stream, this many, are entries
+abbrev pub AreEntriesNext : ℕ → StreamState → Type 0
+AreEntriesNext count stream = (place : ℕ) → place < count → HasEntry (behind place stream)
+
+-- the entries before this one were offered, and skipped in the stream; this one is the log's next,
+-- and memory was refused for it
+pub record IsRefusedAmong (old : LogOf) (from : StreamState) (batch : List EntryOp) (new : LogOf)
+    (rest : StreamState) : Type 0 where
   pub index : ℕ
   pub entry : EntryOp
   pub there : slice_get batch index ≡ Some entry
   pub before : new ≡ after_batch old (take index batch)
   pub next : offer_answer new.board entry.number ≡ Next
+  pub skipped : rest ≡ behind index from
 
 -- a stream handed out entries, and the replica received each in time
 pub record ReceivesEntries {S : Type 0} (old : ReplicaOf S) (from : StreamState)

@@ -12,8 +12,8 @@ use Rattle.sb_replica.proofs.streams.look_up.Goals as goal
 pub loop-taken-preserved : goal.loop-taken-preserved
 loop-taken-preserved c =
     let names = c.args.directory.now in
-    let from = c.args.stream.now in
-    let old = c.loop-taken.stream in
+    let from = c.args.lookahead.now in
+    let old = c.loop-taken.lookahead in
     let new = c.next_entry.new.self in
     let before = c.loop-taken.batch.items in
     let all = c.push.new.self.items in
