@@ -1,5 +1,5 @@
 -- Draining a board: its exchanges with a crew, and what it leaves as it was.
-use Rattle.std.specs.Prelude.{◌≡◌, ◌≢◌, ℕ, ◌≤◌, Option, Some, None, List, [], ◌∷◌, ◌++◌, length, slice_get}
+use Rattle.std.specs.Prelude.{◌≡◌, ◌≢◌, ℕ, Option, Some, None, List, [], ◌∷◌, ◌++◌, slice_get}
 use Rattle.sb_calls.specs.Behaviour.{declared_cowns, effect_of}
 use Rattle.sb_calls.specs.declared.op.Op.{Op}
 use Rattle.sb_calls.specs.declared.reply.Reply.{Reply}

@@ -223,6 +223,7 @@ mod tests {
     use crate::gate::OpenGate;
     use crate::inbox::open_inbox;
     use crate::jobs::job;
+    use crate::thread_pool::ThreadRoom;
     use crate::wake_up::WakeUp;
     use crate::worker::Worker;
     use cown_bench::OwnerPass;
@@ -275,7 +276,8 @@ mod tests {
     {
         let mut workers = Vec::with_capacity(alloc, 1).expect(rt, "memory");
         workers.push_reserved(worker);
-        let thread_pool = ThreadPool::start(scope, alloc, bench, workers).expect(rt, "memory");
+        let room = ThreadRoom::new(alloc).expect(rt, "memory");
+        let thread_pool = room.start(scope, bench, workers);
         assert!(rt; thread_pool.len() == 1);
         thread_pool
     }

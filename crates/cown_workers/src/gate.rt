@@ -45,9 +45,9 @@ impl Gate for OpenGate {
 pub(crate) fn carry_out<G: Gate>(gate: &G, job: Job<Op>) -> Done<Op>
     ensures { IsResultOf result job }
 {
-    let number = job.number();
-    gate.before(number);
+    gate.before(job.number());
     let done = job.run();
-    gate.after(number);
+    // The number is the result's, so the gate isn't told before there is a result.
+    gate.after(done.number());
     done
 }

@@ -1,5 +1,5 @@
 //! A crew in threads.
-ghost use Rattle.std.specs.Prelude.{◌≡◌, ◌+◌, ◌<◌, ◌≤◌, [], ◌++◌, All, length, true, IfOk, OnOk, is_some};
+ghost use Rattle.std.specs.Prelude.{◌≡◌, ◌+◌, ◌<◌, ◌≤◌, [], ◌++◌, All, length, true, IfOk, IfErr, OnOk, is_some};
 ghost use Rattle.std.specs.Option.{option_to_list};
 ghost use Rattle.std.specs.Fn.{FnOnceReturnsAtMut};
 ghost use Rattle.cown_workers.specs.BenchCrews.{BenchCrewOf, ShutsDown, IsFresh};
@@ -9,6 +9,7 @@ use crate::crew_fault::CrewFault;
 use crate::gate::Gate;
 use crate::inbox::{Outbox, open_inbox};
 use crate::owner_side::OwnerSide;
+use crate::thread_pool::ThreadRoom;
 use crate::unstarted_crew::UnstartedCrew;
 use crate::wake_up::WakeUp;
 use crate::worker::Worker;
@@ -26,9 +27,12 @@ use std::time::Clock;
 /// By then everything that `f` laid out was picked, each once, by one worker or by `f`'s own
 /// thread; nothing is left.
 ///
-/// Fails if memory is refused or a thread can't be started; then `f` isn't called. Each job runs
-/// between two calls of the gate. What `f` gave and didn't take in is executed, and its result is
-/// dropped.
+/// Fails with `OutOfMemory` if memory is refused, all of which is taken before the first thread is
+/// started, and with `CrewGone` if a thread can't be started. Then `f` isn't called: its answer
+/// couldn't be let go, since `T` need not be `Drop`.
+///
+/// Each job runs between two calls of the gate. What `f` gave and didn't take in is executed, and
+/// its result is dropped.
 pub fn with_crew<R, G, T, F>(
     rt: &R,
     alloc: Global,
@@ -59,27 +63,31 @@ where
         pass,
         inbox,
     };
-    let unstarted_crew = UnstartedCrew::new(alloc, owner_side, gate, own_pass, hired);
+    let room = ThreadRoom::new(alloc)?;
+    let unstarted_crew = UnstartedCrew::new(room, owner_side, gate, own_pass, hired);
     run(rt, unstarted_crew, f)
 }
 
-// Hands a crew to `f` while its workers are in their threads.
+// Hands a crew to `f` while its workers are in their threads. It takes no memory, so its only fault
+// is that a thread can't be started.
 fn run<R, G, T, F>(rt: &R, unstarted_crew: UnstartedCrew<'_, R, G>, f: F) -> Result<T, CrewFault>
 where
     R: Threads + Wait + Clock + Sync,
     G: Gate + Sync,
     F: FnOnce(&mut BenchCrew<'_, R, G>) -> T,
     requires { F.IsAlwaysCallable f }
-    ensures { IfOk result (λ answer. (after : BenchCrewOf) ×
+    ensures answer { IfOk result (λ answer. (after : BenchCrewOf) ×
         FnOnceReturnsAtMut F.FnOnce f unstarted_crew.entry answer after × ShutsDown after) }
+    ensures fault { IfErr result (λ fault. fault ≡ CrewFault.CrewGone) }
 {
     thread::scope(
         thread::scope_env(),
         rt,
         move |scope| -> Result<T, CrewFault>
             requires callable { F.IsAlwaysCallable f }
-            ensures { IfOk result (λ answer. (after : BenchCrewOf) ×
+            ensures answer { IfOk result (λ answer. (after : BenchCrewOf) ×
                 FnOnceReturnsAtMut F.FnOnce f unstarted_crew.entry answer after × ShutsDown after) }
+            ensures fault { IfErr result (λ fault. fault ≡ CrewFault.CrewGone) }
         {
             let mut crew = unstarted_crew.start(scope)?;
             let answer = f(&mut crew);

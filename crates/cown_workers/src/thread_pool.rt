@@ -2,6 +2,7 @@
 ghost use Rattle.std.specs.Prelude.{◌≡◌, ◌+◌, ◌≤◌, [], ◌++◌, List, All, length, map, vec_capacity, IfOk, IfSome};
 ghost use Rattle.std.specs.Option.{option_to_list};
 ghost use Rattle.cown_bench.specs.BenchPasses.{WorkerOf};
+ghost use Rattle.cown_bench.specs.declared.bench.TheConstants.{WORKERS};
 ghost use Rattle.cown_workers.specs.inner.PassPicks.{EndsAtStop};
 
 use crate::gate::Gate;
@@ -26,6 +27,50 @@ impl Promise<WorkerPass> for PassOf {
 
 pub(crate) type WorkerThread = PromisedHandle<WorkerPass, PassOf>;
 
+// Room for the threads of a whole crew, and for the passes that they return, and for the owner's.
+// So starting threads takes no memory of its own.
+#[derive(Drop)]
+pub(crate) struct ThreadRoom {
+    threads: Vec<WorkerThread>,
+    passes: Vec<WorkerPass>,
+    ghost no_threads: { threads.items ≡ [] },
+    ghost no_passes: { passes.items ≡ [] },
+    ghost for_threads: { WORKERS ≤ vec_capacity threads },
+    ghost for_passes: { WORKERS + 1 ≤ vec_capacity passes },
+}
+
+impl ThreadRoom {
+    pub(crate) fn new(alloc: Global) -> Result<ThreadRoom, AllocError> {
+        let threads = Vec::with_capacity(alloc, WORKERS)?;
+        let passes = Vec::with_capacity(alloc, WORKERS + 1)?;
+        Ok(ThreadRoom { threads, passes })
+    }
+
+    // Starts a thread for each of these workers. If one can't be started, the workers without one
+    // are gone.
+    pub(crate) fn start<'s, E, R, G>(
+        self,
+        scope: &'s Scope<'s, E>,
+        bench: &'s Bench,
+        workers: Vec<Worker<'s, R, G>>,
+    ) -> ThreadPool
+    where
+        R: Wait + Clock + Sync,
+        G: Gate + Sync,
+        requires limit { length workers.items ≤ WORKERS }
+        requires bench { All (λ worker. worker.bench.now ≡ bench.now) workers.items }
+        ensures limit { length result.threads.items ≤ length workers.entry.items }
+        ensures bench { All (λ thread. thread.promise.0.value ≡ bench.now) result.threads.items }
+    {
+        let ThreadRoom {
+            mut threads,
+            passes,
+        } = self;
+        start_each(scope, bench, workers, &mut threads);
+        ThreadPool { threads, passes }
+    }
+}
+
 // The threads of workers, and room for the passes that they return, and for the owner's.
 #[derive(Drop)]
 pub(crate) struct ThreadPool {
@@ -36,29 +81,6 @@ pub(crate) struct ThreadPool {
 }
 
 impl ThreadPool {
-    // Starts a thread for each of these workers. If one can't be started, the workers without one
-    // are gone.
-    pub(crate) fn start<'s, E, R, G>(
-        scope: &'s Scope<'s, E>,
-        alloc: Global,
-        bench: &'s Bench,
-        workers: Vec<Worker<'s, R, G>>,
-    ) -> Result<ThreadPool, AllocError>
-    where
-        R: Wait + Clock + Sync,
-        G: Gate + Sync,
-        requires limit { length workers.items ≤ WORKERS }
-        requires bench { All (λ worker. worker.bench.now ≡ bench.now) workers.items }
-        ensures limit { IfOk result (λ thread_pool. length thread_pool.threads.items ≤ length workers.entry.items) }
-        ensures bench { IfOk result (λ thread_pool.
-            All (λ thread. thread.promise.0.value ≡ bench.now) thread_pool.threads.items) }
-    {
-        let mut threads = Vec::with_capacity(alloc, WORKERS)?;
-        let passes = Vec::with_capacity(alloc, WORKERS + 1)?;
-        start_each(scope, bench, workers, &mut threads);
-        Ok(ThreadPool { threads, passes })
-    }
-
     // The number of threads.
     pub(crate) fn len(&self) -> usize
         ensures { result ≡ length self.now.threads.items }

@@ -1,15 +1,14 @@
 //! A crew whose workers have no threads yet.
-ghost use Rattle.std.specs.Prelude.{◌≡◌, ◌≤◌, All, length, is_some, IfOk};
+ghost use Rattle.std.specs.Prelude.{◌≡◌, ◌≤◌, All, length, is_some, IfOk, IfErr};
 ghost use Rattle.cown_workers.specs.inner.PassPicks.{HasAllPasses, picked_with};
 
 use crate::bench_crew::BenchCrew;
 use crate::crew_fault::CrewFault;
 use crate::gate::Gate;
 use crate::owner_side::OwnerSide;
-use crate::thread_pool::ThreadPool;
+use crate::thread_pool::{ThreadPool, ThreadRoom};
 use crate::worker::Worker;
 use cown_bench::{WORKERS, WorkerPass};
-use std::alloc::Global;
 use std::marker::Model;
 use std::sync::Wait;
 use std::thread::{Scope, Threads};
@@ -18,7 +17,7 @@ use std::time::Clock;
 // Everything of a crew but its threads. Contracts see it as the crew that it becomes.
 #[derive(Drop)]
 pub(crate) struct UnstartedCrew<'a, R: Wait + Clock, G: Gate> {
-    alloc: Global,
+    room: ThreadRoom,
     owner_side: OwnerSide<'a, R>,
     gate: &'a G,
     // The owner's own pass, if it helps.
@@ -50,7 +49,7 @@ impl<'a, R: Wait + Clock, G: Gate> Model for UnstartedCrew<'a, R, G> {
 impl<'a, R: Wait + Clock, G: Gate> UnstartedCrew<'a, R, G> {
     // All passes of the bench are with these.
     pub(crate) fn new(
-        alloc: Global,
+        room: ThreadRoom,
         owner_side: OwnerSide<'a, R>,
         gate: &'a G,
         own_pass: Option<WorkerPass>,
@@ -68,7 +67,7 @@ impl<'a, R: Wait + Clock, G: Gate> UnstartedCrew<'a, R, G> {
         } }
     {
         UnstartedCrew {
-            alloc,
+            room,
             owner_side,
             gate,
             own_pass,
@@ -79,19 +78,20 @@ impl<'a, R: Wait + Clock, G: Gate> UnstartedCrew<'a, R, G> {
 
 impl<'a, R: Threads + Wait + Clock + Sync, G: Gate + Sync> UnstartedCrew<'a, R, G> {
     // Starts a thread for each worker. If one can't be started, the others are stopped and
-    // joined.
+    // joined. It takes no memory, so that is its only fault.
     pub(crate) fn start<E>(self, scope: &'a Scope<'a, E>) -> Result<BenchCrew<'a, R, G>, CrewFault>
-        ensures { IfOk result (λ crew. crew ≡ self.entry) }
+        ensures crew { IfOk result (λ crew. crew ≡ self.entry) }
+        ensures fault { IfErr result (λ fault. fault ≡ CrewFault.CrewGone) }
     {
         let UnstartedCrew {
-            alloc,
+            room,
             owner_side,
             gate,
             own_pass,
             workers,
         } = self;
         let wanted = workers.len();
-        let thread_pool = ThreadPool::start(scope, alloc, owner_side.bench, workers)?;
+        let thread_pool = room.start(scope, owner_side.bench, workers);
         if thread_pool.len() < wanted {
             stop_and_join(owner_side, own_pass, thread_pool);
             return Err(CrewFault::CrewGone);

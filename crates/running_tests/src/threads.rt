@@ -129,6 +129,18 @@ fn a_crew_that_is_given_nothing_ends(rt: HostRuntime) {
     assert!(rt; with_crew(&rt, rt.alloc(), 16, &OpenGate, |_| 8) == Ok(8));
 }
 
+// Nobody can let it go, since it isn't `Drop`. So a crew that calls its closure has to hand over the
+// answer, and can't end with a fault.
+struct KeptAnswer(u64);
+
+#[test]
+fn an_answer_that_nobody_can_let_go_comes_out(rt: HostRuntime) {
+    match with_crew(&rt, rt.alloc(), 1, &OpenGate, |_| KeptAnswer(7)) {
+        Ok(KeptAnswer(number)) => assert!(rt; number == 7),
+        Err(_) => panic!(rt; "no crew"),
+    }
+}
+
 #[test]
 fn what_nobody_takes_in_holds_nobody_up(rt: HostRuntime) {
     let ended = with_crew(&rt, rt.alloc(), 2, &OpenGate, |crew| {

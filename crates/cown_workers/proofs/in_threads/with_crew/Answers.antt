@@ -77,5 +77,5 @@ returns g c =
             called,
             home,
           ))
-          c.run.ensures;
+          c.run.ensures.answer;
     }

@@ -5,22 +5,22 @@ use Rattle.cown_workers.proofs.unstarted_crew.UnstartedCrew.start.Given.{Over}
 use Rattle.cown_workers.proofs.unstarted_crew.UnstartedCrew.start.Goals as goal
 use Rattle.cown_workers.proofs.unstarted_crew.UnstartedCrew.start.Goals.{Else-len-wanted}
 
-as_many : (g : Over) (c : Else-len-wanted g) → length c.in_ok-thread_pool.thread_pool.threads.items ≡ length c.self.inside.workers.items
+as_many : (g : Over) (c : Else-len-wanted g) → length c.start-thread_pool.result.threads.items ≡ length c.self.inside.workers.items
 as_many g c =
-    omega (arith, c.len-wanted.ensures, c.in_ok-thread_pool.ensures.limit, c.len.ensures, c.if-len-wanted.false, c.self.inside.workers.ok)
+    omega (arith, c.len-wanted.ensures, c.start-thread_pool.ensures.limit, c.len.ensures, c.if-len-wanted.false, c.self.inside.workers.ok)
 
 pub new-requires-clause-staff : goal.new-requires-clause-staff
-new-requires-clause-staff g c = c.in_ok-thread_pool.ensures.bench
+new-requires-clause-staff g c = c.start-thread_pool.ensures.bench
 
 pub new-requires-clause-passes : goal.new-requires-clause-passes
 new-requires-clause-passes g c = rw (as_many g c) c.self.invariant.0
 
-pub returns : goal.returns
-returns g c =
+pub returns-clause-crew : goal.returns-clause-crew
+returns-clause-crew g c =
     let inside = c.self.inside in
     subst (λ (n : ℕ). c.new.result ≡ (record {
       workers = n;
       owner_helps = is_some inside.own_pass;
       offered = inside.owner_side.pass.offered;
       picked = picked_with inside.own_pass;
-    })) (as_many g (goal.at.returns g c).Else-len-wanted) c.new.ensures ∙ c.self.view_is
+    })) (as_many g (goal.at.returns-clause-crew g c).Else-len-wanted) c.new.ensures ∙ c.self.view_is
