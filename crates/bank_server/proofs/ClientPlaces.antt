@@ -24,7 +24,7 @@ false_is_true : false ≡ true → ⊥
 false_is_true f = cc
 
 -- a client before its first byte
-fresh_ready : (calls : ℕ) → IsReady calls fresh_client
+pub fresh_ready : (calls : ℕ) → IsReady calls fresh_client
 fresh_ready calls = record {
   sound = record {
     within = All-nil (λ (a : PendingAsk). IsStandingWithin calls a.standing);
@@ -36,7 +36,7 @@ fresh_ready calls = record {
   none_due = refl;
 }
 
-fresh_served : (opening : Rows) (asks log : List (Key × Call)) → IsServed opening asks log no_past fresh_client
+pub fresh_served : (opening : Rows) (asks log : List (Key × Call)) → IsServed opening asks log no_past fresh_client
 fresh_served opening asks log = record {
   clients = All-nil IsFromClient;
   among = All-nil (Contains asks);

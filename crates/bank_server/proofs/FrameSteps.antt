@@ -87,7 +87,19 @@ refused_stops opening old mid new unread left behind frame bytes OutOfMemory hea
     record { there = mid; rest = left; handles = heard; at = λ more. tt; left = refused }
 refused_stops opening old mid new unread left behind frame bytes (Log fault) heard spells is refused =
     record { there = mid; rest = left; handles = heard; at = λ more. tt; left = refused }
-refused_stops opening old mid new unread left behind frame bytes TooMany heard spells is refused = absurd refused
+refused_stops opening old mid new unread left behind frame bytes TooMany heard spells is refused = record {
+  there = mid;
+  rest = left;
+  handles = heard;
+  at = λ more. (
+    frame,
+    behind ++ more,
+    spells.valid,
+    refused.0,
+    ap (λ l. l ++ more) (is ∙ ap (λ b. b ++ behind) spells.spelled) ∙ append_assoc (spelling frame) behind more,
+  );
+  left = (refused.1, refused.2);
+}
 
 err_is : {T : Type 0} {x y : FrameFault} → ◌≡◌ {A = Result T FrameFault} (Err x) (Err y) → x ≡ y
 err_is h = cc

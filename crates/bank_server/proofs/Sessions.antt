@@ -1,10 +1,11 @@
 -- A session from its first byte to its last.
-use Rattle.std.proofs.Common.{◌≡◌, ℕ, true, true≢false, Option, Some, None, List, [], ◌++◌, take, refl, sym, ap, subst, ◌∙◌, append_assoc, append-nil, inl, inr}
+use Rattle.std.proofs.Common.{◌≡◌, ℕ, true, true≢false, Option, Some, None, List, [], ◌++◌, length, take, refl, sym, ap, subst, ◌∙◌, append_assoc, append-nil, inl, inr}
 use Rattle.std.specs.Prelude.{◌≢◌, ◌⊎◌, IfSome, Err}
 use Rattle.std.specs.Io.KnownBytes.{Appends, Consumes, IsAtEnd}
 use Rattle.std.proofs.KnownBytes.{Appends-nil, Consumes-trans}
 use Rattle.std.specs.List.{flat_map}
 use Rattle.std.proofs.lemmas.Grind.{flat_map-append}
+use Rattle.std.proofs.lemmas.List.{length-map}
 use Rattle.std.proofs.lemmas.List.Elements.{All-nil}
 use Rattle.sb_rows.specs.Rows.{Rows}
 use Rattle.sb_calls.specs.declared.ask.Key.{Key}
@@ -14,11 +15,13 @@ use Rattle.sb_frames.specs.Grammar.{spelling}
 use Rattle.sb_frames.specs.Streaming.{IsShort, StreamState}
 use Rattle.sb_frames.specs.declared.frame.Frame as frames
 use Rattle.sb_sequencer.specs.Numbering.{IsLog, first_asks}
+use Rattle.bank_server.specs.Pending.{pending_ask, unflushed_asks}
 use Rattle.bank_server.specs.inner.SessionSteps.{Reaches, HandlesBytes, IsStateAfterFault, SessionState, Stops}
 use Rattle.bank_server.specs.SessionResults.{IsFaultAt, ServesUntilFault, ServesSession, WritesOutcomes, WritesOutcomesBefore}
 use Rattle.bank_server.specs.Session.{IsFromClient, log_of_session, outcomes_of}
 use Rattle.bank_server.specs.inner.FlushFaults.{IsEndFault}
 use Rattle.bank_server.specs.SessionFaults.{IsSettleFault}
+use Rattle.bank_server.specs.declared.bounds.TheConstants.{ASKS_OF_SESSION}
 use Rattle.bank_server.specs.declared.session_fault.SessionFault.{SessionFault}
 use Rattle.bank_server.specs.declared.session_fault.SessionFault.TheVariants.{Frame, Unexpected, CrewGone, Device, OutOfMemory, Log, TooMany}
 use Rattle.bank_server.proofs.OwnLog.{own_log}
@@ -100,7 +103,15 @@ told_before Device opening before start frames there new came left = left ∙ ca
 told_before OutOfMemory opening before start frames there new came left = left ∙ came.log_is
 told_before (Log fault) opening before start frames there new came left = left ∙ came.log_is
 told_before TooMany opening before start frames there new came left =
-    told_at opening before start frames new new.log refl (subst (Reaches opening before start frames) (sym left) came)
+    told_at opening before start frames new new.log refl (subst (Reaches opening before start frames) (sym left.0) came)
+
+-- an ask was one too many only if so many waited
+many_before : (fault : SessionFault) (opening : Rows) (before : List (Key × Call)) (start : Option (List ℕ)) (frames : List frames.Frame)
+    (there new : SessionState) → Reaches opening before start frames there → IsStateAfterFault fault there new
+    → fault ≡ TooMany → length (unflushed_asks frames) ≡ ASKS_OF_SESSION
+many_before fault opening before start frames there new came left is =
+    let full : IsStateAfterFault TooMany there new = subst (λ (f : SessionFault). IsStateAfterFault f there new) is left in
+    sym (ap length came.pending_are ∙ length-map (unflushed_asks frames) (pending_ask there.log)) ∙ full.1
 
 -- a fault within a read
 pub stopped : (opening : Rows) (before : List (Key × Call)) (start : Option (List ℕ)) (bytes chunk behind input : List ℕ) (mid : SessionState)
@@ -113,6 +124,7 @@ stopped opening before start bytes chunk behind input mid unread new fault heard
   rest = stops.rest ++ behind;
   input_is = input_is ∙ ap (λ (l : List ℕ). l ++ behind) on.bytes_are ∙ append_assoc (flat_map spelling on.frames) stops.rest behind;
   at = stops.at behind;
+  many = many_before fault opening before start on.frames stops.there new on.comes stops.left;
   outcomes = told_before fault opening before start on.frames stops.there new on.comes stops.left;
 }
   where
@@ -129,6 +141,7 @@ ended opening before start bytes behind input at unread new fault heard input_is
   rest = unread ++ behind;
   input_is = input_is ∙ ap (λ (l : List ℕ). l ++ behind) heard.bytes_are ∙ append_assoc (flat_map spelling heard.frames) unread behind;
   at = is_at;
+  many = many_before fault opening before start heard.frames at new heard.comes left;
   outcomes = told_before fault opening before start heard.frames at new heard.comes left;
 }
 
@@ -156,7 +169,7 @@ end_left CrewGone stream at new is same = ap (λ (p : SessionState). p.log) same
 end_left Device stream at new is same = ap (λ (p : SessionState). p.log) same
 end_left OutOfMemory stream at new is same = ap (λ (p : SessionState). p.log) same
 end_left (Log fault) stream at new is same = ap (λ (p : SessionState). p.log) same
-end_left TooMany stream at new is same = same
+end_left TooMany stream at new is same = absurd is
 
 -- a log that can't be executed at first
 pub settle_at : (fault : SessionFault) (rest : List ℕ) → IsSettleFault fault → IsFaultAt fault rest

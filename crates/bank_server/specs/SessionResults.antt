@@ -1,5 +1,5 @@
 -- What a session leaves: the log, and its output.
-use Rattle.std.specs.Prelude.{◌≡◌, ◌≢◌, ℕ, Option, Err, List, [], ◌++◌}
+use Rattle.std.specs.Prelude.{◌≡◌, ◌≢◌, ℕ, Option, Err, List, [], ◌++◌, length}
 use Rattle.std.specs.Io.KnownBytes.{Appends}
 use Rattle.std.specs.List.{All, flat_map}
 use Rattle.sb_rows.specs.Rows.{Rows}
@@ -8,7 +8,9 @@ use Rattle.sb_calls.specs.declared.call.Call.{Call}
 use Rattle.sb_frames.specs.Decoding.{decode_result}
 use Rattle.sb_frames.specs.Grammar.{IsFrame, spelling}
 use Rattle.sb_frames.specs.declared.frame.Frame as frames
+use Rattle.bank_server.specs.Pending.{unflushed_asks}
 use Rattle.bank_server.specs.Session.{IsAskFrame, IsFromClient, log_of_session, outcomes_of}
+use Rattle.bank_server.specs.declared.bounds.TheConstants.{ASKS_OF_SESSION}
 use Rattle.bank_server.specs.declared.session_fault.SessionFault.{SessionFault}
 use Rattle.bank_server.specs.declared.session_fault.SessionFault.TheVariants.{Frame, Unexpected, CrewGone, Device, OutOfMemory, Log, TooMany}
 
@@ -62,4 +64,6 @@ pub record ServesUntilFault (opening : Rows) (before log : List (Key × Call))
   pub rest : List ℕ
   pub input_is : input ≡ flat_map spelling frames ++ rest
   pub at : IsFaultAt fault rest
+  -- after TooMany exactly this many of their asks wait for a flush
+  pub many : fault ≡ TooMany → length (unflushed_asks frames) ≡ ASKS_OF_SESSION
   pub outcomes : WritesOutcomesBefore fault opening before frames log old new

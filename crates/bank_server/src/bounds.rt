@@ -1,7 +1,10 @@
-//! What a client that is served beside others may take up.
+//! What a client may take up.
 
-/// The most asks of a client that may wait for a flush of its own.
+/// The most asks of a client that may wait for a flush of its own, if it is served beside others.
 pub const ASKS_BEFORE_FLUSH: usize = 65_536;
+
+/// The most asks of a client that may wait for a flush, if it is served alone.
+pub const ASKS_OF_SESSION: usize = 2_000_000;
 
 /// The most bytes of outcomes that a client may leave unread.
 pub const UNREAD_BYTES: usize = 4_194_304;

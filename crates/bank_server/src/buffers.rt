@@ -1,5 +1,5 @@
 //! A client's frames, one after another.
-ghost use Rattle.std.specs.Prelude.{◌≡◌, ◌++◌, ◌∷◌, [], ℕ, Option, List, length, false, IfErr, OnOk, OnErr};
+ghost use Rattle.std.specs.Prelude.{◌≡◌, ◌≤◌, ◌+◌, ◌++◌, ◌∷◌, [], ℕ, Option, List, length, false, IfErr, OnOk, OnErr};
 ghost use Rattle.sb_frames.specs.Streaming.{IsShort};
 ghost use Rattle.sb_frames.specs.Streaming as streaming;
 ghost use Rattle.sb_frames.specs.declared.frame.Frame.TheVariants as frames;
@@ -11,6 +11,7 @@ ghost use Rattle.bank_server.specs.inner.FlushFaults.{IsFlushFault};
 ghost use Rattle.bank_server.specs.SessionFaults.{LosesCrew, LosesLog};
 ghost use Rattle.bank_server.specs.declared.session_fault.SessionFault.TheVariants as faults;
 
+use crate::bounds::ASKS_OF_SESSION;
 use crate::outcome_frames::push_outcomes;
 use crate::pending::PendingAsk;
 use crate::primary::Primary;
@@ -60,8 +61,10 @@ pub(crate) fn handle_bytes<W: Write, S: CheckpointStore, K: Keeper, C: Crew>(
     crew: &mut C,
 ) -> Result<(), SessionFault>
     requires among { ArePendingWithin (length primary.old.log) buffers.old.pending.items }
+    requires few { length buffers.old.pending.items ≤ ASKS_OF_SESSION }
     requires healthy { buffers.old.stream.failed ≡ false }
     ensures among { OnOk result (ArePendingWithin (length primary.new.log) buffers.new.pending.items) }
+    ensures few { OnOk result (length buffers.new.pending.items ≤ ASKS_OF_SESSION) }
     ensures handles { OnOk result (HandlesBytes (opening_rows_of primary.old)
         (session_state_of primary.old.log buffers.old (W.contents writer.old)) (buffers.old.stream.unread ++ bytes.now)
         (session_state_of primary.new.log buffers.new (W.contents writer.new)) buffers.new.stream.unread) }
@@ -91,8 +94,10 @@ fn handle_frames<W: Write, S: CheckpointStore, K: Keeper, C: Crew>(
     crew: &mut C,
 ) -> Result<(), SessionFault>
     requires among { ArePendingWithin (length primary.old.log) buffers.old.pending.items }
+    requires few { length buffers.old.pending.items ≤ ASKS_OF_SESSION }
     requires healthy { buffers.old.stream.failed ≡ false }
     ensures among { OnOk result (ArePendingWithin (length primary.new.log) buffers.new.pending.items) }
+    ensures few { OnOk result (length buffers.new.pending.items ≤ ASKS_OF_SESSION) }
     ensures handles { OnOk result (HandlesBytes (opening_rows_of primary.old)
         (session_state_of primary.old.log buffers.old (W.contents writer.old)) buffers.old.stream.unread
         (session_state_of primary.new.log buffers.new (W.contents writer.new)) buffers.new.stream.unread) }
@@ -126,7 +131,9 @@ fn handle_frame<W: Write, S: CheckpointStore, K: Keeper, C: Crew>(
     crew: &mut C,
 ) -> Result<(), SessionFault>
     requires among { ArePendingWithin (length primary.old.log) buffers.old.pending.items }
+    requires few { length buffers.old.pending.items ≤ ASKS_OF_SESSION }
     ensures among { OnOk result (ArePendingWithin (length primary.new.log) buffers.new.pending.items) }
+    ensures few { OnOk result (length buffers.new.pending.items ≤ ASKS_OF_SESSION) }
     ensures leads { OnOk result (Leads (opening_rows_of primary.old)
         (session_state_of primary.old.log buffers.old (W.contents writer.old)) (frame.now ∷ [])
         (session_state_of primary.new.log buffers.new (W.contents writer.new))) }
@@ -145,6 +152,10 @@ fn handle_frame<W: Write, S: CheckpointStore, K: Keeper, C: Crew>(
             request,
             call,
         } => {
+            let full = buffers.pending.len() >= ASKS_OF_SESSION;
+            if full {
+                return Err(SessionFault::TooMany);
+            }
             let key = Key {
                 client: *client,
                 request: *request,
@@ -165,6 +176,7 @@ fn assign_number<S: CheckpointStore, K: Keeper>(
 ) -> Result<(), SessionFault>
     requires among { ArePendingWithin (length primary.old.log) pending.old.items }
     ensures among { OnOk result (ArePendingWithin (length primary.new.log) pending.new.items) }
+    ensures one { OnOk result (length pending.new.items ≤ length pending.old.items + 1) }
     ensures leads { OnOk result ((written : Option (List ℕ)) → Leads (opening_rows_of primary.old)
         (record { log = primary.old.log; pending = pending.old.items; written = written })
         (frames.Ask key.client key.request call.now ∷ [])
@@ -190,6 +202,7 @@ fn send_outcomes<W: Write, S: CheckpointStore, K: Keeper, C: Crew>(
 ) -> Result<(), SessionFault>
     requires among { ArePendingWithin (length primary.old.log) buffers.old.pending.items }
     ensures among { OnOk result (ArePendingWithin (length primary.new.log) buffers.new.pending.items) }
+    ensures few { OnOk result (length buffers.new.pending.items ≤ ASKS_OF_SESSION) }
     ensures leads { OnOk result (Leads (opening_rows_of primary.old)
         (session_state_of primary.old.log buffers.old (W.contents writer.old)) (frames.Flush ∷ [])
         (session_state_of primary.new.log buffers.new (W.contents writer.new))) }

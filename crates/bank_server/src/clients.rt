@@ -153,6 +153,7 @@ impl Clients {
         // The log is that of all asks taken, and each client was given exactly the outcomes of its own.
         ensures served { OnOk result (ServesTurn (IsServed (opening_rows_of primary.old)) (A.coming arrivals.old)
             (A.coming arrivals.new) primary.old.log self.old.all primary.new.log self.new.all) }
+        ensures sent { A.sent arrivals.new ≡ A.sent arrivals.old }
         ensures as_many { length self.new.all ≡ length self.old.all }
         // The whole log is kept, unless nobody was told anything and nobody ended.
         ensures kept { OnOk result (K.Keeps primary.new.keeper primary.new.log ⊎ (self.new.stirred ≡ [])) }
@@ -198,6 +199,7 @@ fn serve_turn<A: Arrivals, S: CheckpointStore, K: Keeper, C: Crew>(
     ensures ready { OnOk result (All (λ client. IsReady (length primary.new.log) client) clients.new) }
     ensures served { OnOk result (ServesTurn (IsServed (opening_rows_of primary.old)) (A.coming arrivals.old)
         (A.coming arrivals.new) primary.old.log clients.old primary.new.log clients.new) }
+    ensures sent { A.sent arrivals.new ≡ A.sent arrivals.old }
     ensures as_many { length clients.new ≡ length clients.old }
     ensures kept { OnOk result (K.Keeps primary.new.keeper primary.new.log ⊎ (stirred.new.items ≡ [])) }
     ensures calm { OnOk result (AreCalmBut stirred.new.items clients.old clients.new) }

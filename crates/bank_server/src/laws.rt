@@ -3,7 +3,7 @@ ghost use Rattle.bank_server.specs.AskResults.{AnswersAreFinal};
 ghost use Rattle.bank_server.specs.Session.{ToldOutcomesStand};
 ghost use Rattle.std.specs.Prelude.{◌≡◌};
 
-use crate::bounds::{ASKS_BEFORE_FLUSH, READ_BYTES, UNREAD_BYTES};
+use crate::bounds::{ASKS_BEFORE_FLUSH, ASKS_OF_SESSION, READ_BYTES, UNREAD_BYTES};
 
 /// The sequencer's answer to an ask (a new number, a repeat, a mismatch or a full log) is its
 /// standing in the log for good, and so in the output, whatever is asked after it.
@@ -17,9 +17,10 @@ pub fn told_outcomes_stand()
     ensures { ToldOutcomesStand }
 {}
 
-/// The bounds of a client that is served beside others.
+/// The bounds of a client that is served beside others, and of one that is served alone.
 pub fn client_bounds()
     ensures asks { ASKS_BEFORE_FLUSH ≡ 65536 }
+    ensures session { ASKS_OF_SESSION ≡ 2000000 }
     ensures unread { UNREAD_BYTES ≡ 4194304 }
     ensures read { READ_BYTES ≡ 65536 }
 {}

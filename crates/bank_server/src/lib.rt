@@ -42,7 +42,7 @@ pub use agreement::agree;
 pub use answers::{push_answers, push_output};
 pub use arrivals::{Arrival, Arrivals};
 pub use asking::{Standing, ask_lines};
-pub use bounds::{ASKS_BEFORE_FLUSH, READ_BYTES, UNREAD_BYTES};
+pub use bounds::{ASKS_BEFORE_FLUSH, ASKS_OF_SESSION, READ_BYTES, UNREAD_BYTES};
 pub use clients::Clients;
 pub use fault::{InputFault, RunFault};
 pub use followers::{Followers, with_followers};

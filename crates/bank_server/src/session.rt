@@ -31,6 +31,7 @@ const CHUNK: usize = 65_536;
 /// - [`SessionFault::Frame`] if bytes come that no frame begins with, or the last frame isn't
 ///   whole,
 /// - [`SessionFault::Unexpected`] if a frame comes that is neither an ask nor a flush,
+/// - [`SessionFault::TooMany`] if an ask comes and [`crate::ASKS_OF_SESSION`] wait for a flush,
 /// - [`SessionFault::CrewGone`] if the crew leaves something unfinished,
 /// - [`SessionFault::Device`] if a read or a write fails, or the client takes more than [`READS`]
 ///   reads,

@@ -34,9 +34,10 @@ pub enum SessionFault {
     /// kept.
     #[error("the log can't be kept: {0}")]
     Log(LogFault),
-    /// The client has [`crate::ASKS_BEFORE_FLUSH`] asks since its last flush, and sent one more. That
-    /// one has no number; all asks before were numbered, and the outcomes of those that a flush
-    /// followed were sent.
+    /// The client has [`crate::ASKS_OF_SESSION`] asks since its last flush, or
+    /// [`crate::ASKS_BEFORE_FLUSH`] if it is served beside others, and sent one more. That one has
+    /// no number; all asks before were numbered, and the outcomes of those that a flush followed
+    /// were sent.
     #[error("too many asks before a flush")]
     TooMany,
 }

@@ -31,6 +31,7 @@ pub(crate) fn take_arrivals<A: Arrivals, S: CheckpointStore, K: Keeper>(
         (A.coming arrivals.new) primary.old.log clients.old primary.new.log clients.new) }
     ensures there { All (λ k. k < length clients.new) stirred.new.items }
     ensures calm { OnOk result (AreCalmBut stirred.new.items clients.old clients.new) }
+    ensures sent { A.sent arrivals.new ≡ A.sent arrivals.old }
     ensures as_many { length clients.new ≡ length clients.old }
     ensures node { primary.new.node ≡ primary.old.node }
     ensures bank { PreservesBank K.Keeps K.opening K.has_failed primary.old primary.new }

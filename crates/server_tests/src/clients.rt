@@ -26,6 +26,8 @@ struct Script<'a> {
 impl Arrivals for Script<'_> {
     ghost coming = { λ script. None };
 
+    ghost sent = { λ script. None };
+
     fn next(&mut self, chunk: &mut [u8]) -> Option<Arrival> {
         let (client, piece) = *self.pieces.get(self.taken)?;
         self.taken = self.taken.saturating_add(1);

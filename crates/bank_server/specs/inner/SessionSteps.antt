@@ -1,5 +1,5 @@
 -- The state of a session, and the frames that led there.
-use Rattle.std.specs.Prelude.{◌≡◌, ℕ, Option, List, ◌++◌, map}
+use Rattle.std.specs.Prelude.{◌≡◌, ℕ, Option, List, ◌++◌, length, map}
 use Rattle.std.specs.Io.KnownBytes.{Appends}
 use Rattle.std.specs.List.{All, flat_map}
 use Rattle.sb_rows.specs.Rows.{Rows}
@@ -9,7 +9,8 @@ use Rattle.sb_frames.specs.Grammar.{spelling}
 use Rattle.sb_frames.specs.declared.frame.Frame as frames
 use Rattle.bank_server.specs.SessionResults.{IsFaultAt}
 use Rattle.bank_server.specs.Pending.{pending_ask, unflushed_asks}
-use Rattle.bank_server.specs.Session.{IsFromClient, log_of_session, outcomes_of}
+use Rattle.bank_server.specs.Session.{IsAskFrame, IsFromClient, log_of_session, outcomes_of}
+use Rattle.bank_server.specs.declared.bounds.TheConstants.{ASKS_OF_SESSION}
 use Rattle.bank_server.specs.declared.buffers.SessionBuffers.{SessionBuffers}
 use Rattle.bank_server.specs.declared.pending.PendingAsk.{PendingAsk}
 use Rattle.bank_server.specs.declared.session_fault.SessionFault.{SessionFault}
@@ -55,7 +56,7 @@ IsStateAfterFault CrewGone there now = now.log ≡ there.log
 IsStateAfterFault Device there now = now.log ≡ there.log
 IsStateAfterFault OutOfMemory there now = now.log ≡ there.log
 IsStateAfterFault (Log fault) there now = now.log ≡ there.log
-IsStateAfterFault TooMany there now = now ≡ there
+IsStateAfterFault TooMany there now = (now ≡ there) × (length there.pending ≡ ASKS_OF_SESSION)
 
 -- some of the unread bytes spell frames that led somewhere, and the fault came there, whatever
 -- bytes follow
@@ -67,7 +68,8 @@ pub record Stops (opening : Rows) (old : SessionState) (unread : List ℕ)
   pub at : (behind : List ℕ) → IsFaultAt fault (rest ++ behind)
   pub left : IsStateAfterFault fault there new
 
--- a frame that no client sends changes nothing, and after any other fault the log stays
+-- a frame that no client sends changes nothing, nor does one ask too many, and after any other fault
+-- the log stays
 abbrev pub RefusesFrame : frames.Frame → SessionFault → SessionState → SessionState → Type 0
 RefusesFrame frame (Frame fault) old new = ⊥
 RefusesFrame frame Unexpected old new = (¬ IsFromClient frame) × (new ≡ old)
@@ -75,4 +77,5 @@ RefusesFrame frame CrewGone old new = new.log ≡ old.log
 RefusesFrame frame Device old new = new.log ≡ old.log
 RefusesFrame frame OutOfMemory old new = new.log ≡ old.log
 RefusesFrame frame (Log fault) old new = new.log ≡ old.log
-RefusesFrame frame TooMany old new = ⊥
+RefusesFrame frame TooMany old new = IsAskFrame frame × (new ≡ old)
+    × (length old.pending ≡ ASKS_OF_SESSION)

@@ -3,13 +3,11 @@ use Rattle.std.proofs.lemmas.Result.{on_ok_weaker}
 use Rattle.sb_frames.specs.declared.frame.Frame.{Frame}
 use Rattle.bank_server.specs.inner.SessionSteps.{Leads, session_state_of}
 use Rattle.bank_server.specs.Primary.{opening_rows_of}
-use Rattle.bank_server.specs.SessionFaults.{LosesCrew}
 use Rattle.bank_server.proofs.Keeping.{stays_bank}
-use Rattle.bank_server.proofs.WholeReplies.{if_err}
 use Rattle.bank_server.proofs.buffers.handle_frame.Goals as goal
 
-pub returns-in-Ask-clause-leads : goal.returns-in-Ask-clause-leads
-returns-in-Ask-clause-leads g c =
+pub returns-else-full-clause-leads : goal.returns-else-full-clause-leads
+returns-else-full-clause-leads g c =
     let written = g.W.Write.contents c.args.writer.now in
     on_ok_weaker c.assign_number.result (λ leads. subst (λ (frame : Frame). Leads (opening_rows_of c.args.primary.now)
     (session_state_of c.args.primary.now.log c.args.buffers.now written) (frame ∷ [])
@@ -23,9 +21,8 @@ returns-in-Flush-clause-leads g c =
     (session_state_of c.send_outcomes.new.primary.log c.send_outcomes.new.buffers (g.W.Write.contents c.send_outcomes.new.writer))) (sym c.in-Flush.is) leads)
     c.send_outcomes.ensures.leads
 
-pub returns-in-Ask-clause-crew_lost : goal.returns-in-Ask-clause-crew_lost
-returns-in-Ask-clause-crew_lost g c =
-    if_err c.assign_number.result (λ fault is. subst (LosesCrew g.C.Crew.keeps c.args.primary.now.node.board) (sym is) tt) c.assign_number.ensures.fault
+pub returns-then-full-clause-bank : goal.returns-then-full-clause-bank
+returns-then-full-clause-bank g c = stays_bank c.args.primary.now
 
 pub returns-in_default-clause-bank : goal.returns-in_default-clause-bank
 returns-in_default-clause-bank g c = stays_bank c.args.primary.now

@@ -17,6 +17,7 @@ loop-frame-init g c = record {
   handles = hears_nothing (opening_rows_of c.args.primary.now)
       (session_state_of c.args.primary.now.log c.args.buffers.now (g.W.Write.contents c.args.writer.now)) c.args.buffers.now.stream.unread;
   among = c.requires.among;
+  few = c.requires.few;
   going = c.requires.healthy;
   bank = stays_bank c.args.primary.now;
   none_out = λ e none. none;
@@ -40,6 +41,7 @@ loop-frame-preserved g c =
           c.handle_frame.new.buffers.stream.unread c.in-Ok-Some.frame handed.spelled.0 kept.handles handed.spelled.1
           (handed.spelled.2 ∙ ap (λ (s : StreamState). handed.spelled.0 ++ s.unread) (sym step.stream)) leads;
       among = step.among;
+      few = step.few;
       going = ap (λ (s : StreamState). s.failed) step.stream ∙ handed.not_failed;
       bank = keeps_on c.args.primary.now loop.primary c.handle_frame.new.primary kept.bank step.bank;
       none_out = λ e none. c.handle_frame.ensures.none_out e (kept.none_out e none);

@@ -1,4 +1,4 @@
-use Rattle.std.proofs.Common.{rules, ◌≡◌, ℕ, List, [], ◌++◌, take, length, refl, sym, ap, subst, ◌∙◌, append-nil}
+use Rattle.std.proofs.Common.{arith, rules, ◌≡◌, ◌≤◌, ℕ, List, [], ◌++◌, take, length, refl, sym, ap, subst, ◌∙◌, append-nil}
 use Rattle.std.specs.Io.KnownBytes.{Consumes, IsAtEnd}
 use Rattle.std.proofs.KnownBytes.{Consumes-kept, Consumes-trans}
 use Rattle.std.proofs.lemmas.Result.{err_from_is_err_and, on_ok_weaker}
@@ -12,6 +12,7 @@ use Rattle.bank_server.specs.inner.SessionSteps.{HandlesBytes, SessionState, Sto
 use Rattle.bank_server.specs.Primary.{opening_rows_of}
 use Rattle.bank_server.specs.SessionResults.{ServesUntilFault, ServesSession}
 use Rattle.bank_server.specs.Standing.{IsStandingWithin}
+use Rattle.bank_server.specs.declared.bounds.TheConstants.{ASKS_OF_SESSION}
 use Rattle.bank_server.specs.declared.session_fault.SessionFault.TheVariants.{Device}
 use Rattle.bank_server.specs.declared.pending.PendingAsk.{PendingAsk}
 use Rattle.bank_server.proofs.Boards.{idle_none_out}
@@ -54,6 +55,7 @@ loop-init g c =
       short = subst IsShort (sym c.new-buffers.ensures.stream) (refl, nothing_short);
       among = All-same (λ (ask : PendingAsk). IsStandingWithin (length c.settle.new.self.log) ask.standing) buffers.pending.items []
           c.new-buffers.ensures.pending (All-nil (λ (ask : PendingAsk). IsStandingWithin (length c.settle.new.self.log) ask.standing));
+      few = subst (λ (l : List PendingAsk). length l ≤ ASKS_OF_SESSION) (sym c.new-buffers.ensures.pending) (omega arith);
       bank = settled.bank;
       none_out = λ e none. idle_none_out c.settle.new.self.node.board settled.whole_log.idle;
     }
@@ -183,6 +185,7 @@ loop-preserved g c =
             heard = heard_more (opening_rows_of old) old.log start kept.bytes chunk at unread new w.handle_bytes.new.buffers.stream.unread kept.heard handles;
             short = heard.short;
             among = heard.among;
+            few = heard.few;
             bank = keeps_on old c.loop.primary w.handle_bytes.new.primary kept.bank heard.bank;
             none_out = λ e none. w.handle_bytes.ensures.none_out e (kept.none_out e none);
           })
@@ -193,6 +196,7 @@ loop-preserved g c =
             heard = kept.heard;
             short = kept.short;
             among = kept.among;
+            few = kept.few;
             bank = kept.bank;
             none_out = kept.none_out;
           })

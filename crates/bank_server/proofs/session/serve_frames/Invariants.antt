@@ -1,8 +1,9 @@
-use Rattle.std.proofs.Common.{◌≡◌, ℕ, List, false, length}
+use Rattle.std.proofs.Common.{◌≡◌, ◌≤◌, ℕ, List, false, length}
 use Rattle.std.specs.Io.KnownBytes.{Consumes}
 use Rattle.sb_frames.specs.Streaming.{IsShort}
 use Rattle.cown_workers.specs.Draining.{HasNoneOut}
 use Rattle.bank_server.specs.Pending.{ArePendingWithin}
+use Rattle.bank_server.specs.declared.bounds.TheConstants.{ASKS_OF_SESSION}
 use Rattle.bank_server.specs.inner.SessionSteps.{session_state_of}
 use Rattle.bank_server.specs.Primary.{PreservesBank, opening_rows_of}
 use Rattle.bank_server.proofs.Sessions.{ReadsTo}
@@ -17,6 +18,7 @@ invariant-loop g l = record {
       (session_state_of l.primary.log l.buffers (g.W.Write.contents l.writer)) l.buffers.stream.unread;
   short : IsShort l.buffers.stream;
   among : ArePendingWithin (length l.primary.log) l.buffers.pending.items;
+  few : length l.buffers.pending.items ≤ ASKS_OF_SESSION;
   bank : PreservesBank g.K.Keeper.Keeps g.K.Keeper.opening g.K.Keeper.has_failed l.fn.primary l.primary;
   none_out : g.C.Crew.keeps ≡ false → HasNoneOut l.fn.primary.node.board → HasNoneOut l.primary.node.board;
 }

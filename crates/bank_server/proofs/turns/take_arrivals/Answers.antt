@@ -18,6 +18,7 @@ loop-init g c = record {
   there = subst (λ (l : List ℕ). All (λ k. k < length c.args.clients.now) l) (sym c.requires.none) (All-nil (λ (k : ℕ). k < length c.args.clients.now));
   calm = subst (λ (l : List ℕ). AreCalmBut l c.args.clients.now c.args.clients.now) (sym c.requires.none)
       (calm_at_first c.args.clients.now c.requires.none_due);
+  sent = refl;
   as_many = refl;
   node = refl;
   bank = stays_bank c.args.primary.now;
@@ -40,6 +41,7 @@ loop-preserved g c =
           step.as_many kept.taken c.in-Some.ensures.next one;
       there = step.there;
       calm = step.calm c.args.clients.now kept.calm;
+      sent = c.next.ensures.sent ∙ kept.sent;
       as_many = step.as_many ∙ kept.as_many;
       node = step.node ∙ kept.node;
       bank = keeps_on c.args.primary.now loop.primary new.primary kept.bank step.bank;

@@ -12,6 +12,7 @@ invariant-loop g l = record {
       l.fn.clients l.primary.log l.clients;
   there : All (λ k. k < length l.clients) l.stirred.items;
   calm : AreCalmBut l.stirred.items l.fn.clients l.clients;
+  sent : g.A.Arrivals.sent l.arrivals ≡ g.A.Arrivals.sent l.fn.arrivals;
   as_many : length l.clients ≡ length l.fn.clients;
   node : l.primary.node ≡ l.fn.primary.node;
   bank : PreservesBank g.K.Keeper.Keeps g.K.Keeper.opening g.K.Keeper.has_failed l.fn.primary l.primary;

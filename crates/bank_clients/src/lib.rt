@@ -1,0 +1,17 @@
+//! Clients who are served at once, over their connections: who comes, what arrives, what goes out,
+//! and who leaves.
+#![tactic(auto)]
+
+mod connections;
+mod delivery;
+mod laws;
+mod lingering;
+mod sessions;
+mod slot;
+mod socket_places;
+mod sockets;
+
+pub use connections::Connections;
+pub use laws::begins_served;
+pub use sessions::{Over, Sessions};
+pub use sockets::{ClientSockets, Limits};

@@ -1,0 +1,245 @@
+//! The sockets of clients, which one thread polls.
+ghost use Rattle.std.specs.Prelude.{◌≤◌, length, None};
+
+use crate::connections::Connections;
+use crate::slot::Slot;
+use crate::socket_places::{Sign, SocketPlaces, earlier, has_come};
+use bank_server::{Arrival, Arrivals};
+use mio::net::{TcpListener, TcpStream};
+use mio::{Events, Interest, Poll, Token};
+use std::alloc::Global;
+use std::io;
+use std::io::ErrorKind;
+use std::net::{Net, SocketAddr};
+use std::time::{Clock, Duration, Instant};
+
+// How many signs of the system are taken at once.
+const SIGNS: usize = 1_024;
+
+// How many clients are accepted before others are served again.
+const GUESTS: usize = 64;
+
+// After how long accepting is tried again, in milliseconds, if the system can't.
+const RETRY: u64 = 100;
+
+/// How many clients are served at once, how many in all, and for how long each may be silent.
+#[derive(Clone, Copy, Debug, PartialEq, Eq)]
+pub struct Limits {
+    /// So many at once. One more is closed as it comes.
+    pub at_once: usize,
+    /// So many in all. Later ones aren't accepted.
+    pub in_all: usize,
+    /// So long.
+    pub patience: Option<Duration>,
+}
+
+/// The sockets of clients, and the one where they come. All of them are polled by the thread that
+/// serves, and none is waited for alone. It isn't known what arrives there, or what they take.
+#[derive(Drop)]
+pub struct ClientSockets<'a, H: Clock> {
+    rt: &'a H,
+    poll: Poll,
+    events: Events<Global>,
+    listener: TcpListener,
+    // The token of the listener: the number of places.
+    door: usize,
+    // Whether someone may have come, and when that is found out if accepting failed.
+    has_guests: bool,
+    retry: Option<Instant>,
+    // How many may come yet.
+    left: usize,
+    places: SocketPlaces,
+    now: Instant,
+}
+
+impl<'a, H: Clock> ClientSockets<'a, H> {
+    /// The sockets of the clients who will come to this one.
+    ///
+    /// Fails if the device fails, or memory is refused.
+    pub fn new(
+        rt: &'a H,
+        net: &impl Net,
+        alloc: Global,
+        listener: TcpListener,
+        limits: Limits,
+    ) -> io::Result<ClientSockets<'a, H>> {
+        let poll = Poll::new(net)?;
+        let mut listener = listener;
+        let door = limits.at_once;
+        poll.registry()
+            .register(&mut listener, Token(door), Interest::READABLE)?;
+        Ok(ClientSockets {
+            rt,
+            poll,
+            events: Events::with_capacity(alloc, SIGNS)?,
+            listener,
+            door,
+            has_guests: true,
+            retry: None,
+            left: limits.in_all,
+            places: SocketPlaces::new(alloc, limits.at_once, limits.patience)?,
+            now: Instant::now(rt)?,
+        })
+    }
+
+    /// The port where clients are accepted.
+    pub fn port(&self) -> io::Result<u16> {
+        Ok(self.listener.local_addr()?.port())
+    }
+
+    // For how long the system is asked at most.
+    fn timeout(&self) -> Option<Duration> {
+        if self.places.is_busy() || self.is_open() {
+            return Some(Duration::from_millis(0));
+        }
+        let until = earlier(self.retry, self.places.look())?;
+        Some(until.duration_since(self.now))
+    }
+
+    // Takes what the system said.
+    fn take_signs(&mut self) {
+        for event in &self.events {
+            let place = event.token().0;
+            if place == self.door {
+                self.has_guests = true;
+                continue;
+            }
+            let sign = Sign {
+                is_readable: event.is_readable() || event.is_error(),
+                is_closing: event.is_read_closed() || event.is_error(),
+                is_writable: event.is_writable(),
+            };
+            self.places.mark(place, sign);
+        }
+    }
+
+    // A client that came gets a place, or is closed if there is none.
+    fn seat(&mut self, stream: TcpStream) -> Option<usize> {
+        let place = self.places.take_free()?;
+        match self.register(stream, place) {
+            Ok(slot) => {
+                self.places.put(place, slot);
+                self.left = self.left.saturating_sub(1);
+                Some(place)
+            }
+            Err(_) => {
+                self.places.give_back(place);
+                None
+            }
+        }
+    }
+
+    // Has the system tell of a socket.
+    fn register(&self, stream: TcpStream, place: usize) -> io::Result<Slot> {
+        let mut stream = stream;
+        // What is written is sent at once.
+        stream.set_nodelay(true)?;
+        let both = Interest::READABLE | Interest::WRITABLE;
+        self.poll
+            .registry()
+            .register(&mut stream, Token(place), both)?;
+        Ok(Slot::new(stream, self.now))
+    }
+
+    // The next one who came, if it is known that there is one.
+    fn accept(&mut self) -> Option<TcpStream> {
+        match self.listener.accept() {
+            Ok((stream, _)) => Some(stream),
+            Err(error) => {
+                match error.kind() {
+                    ErrorKind::WouldBlock => self.has_guests = false,
+                    kind if is_of_a_client(kind) => {}
+                    // No descriptor is left, say. It is tried again.
+                    _ => self.retry = self.now.checked_add(Duration::from_millis(RETRY)),
+                }
+                None
+            }
+        }
+    }
+
+    // Whether clients are accepted now.
+    fn is_open(&self) -> bool {
+        self.has_guests && self.left > 0 && self.retry.is_none()
+    }
+}
+
+impl<'a, H: Clock> Arrivals for ClientSockets<'a, H> {
+    ghost coming = { λ sockets. None };
+
+    ghost sent = { λ sockets. None };
+
+    fn next(&mut self, chunk: &mut [u8]) -> Option<Arrival> {
+        self.places.next(chunk, self.now)
+    }
+}
+
+impl<'a, H: Clock> Connections for ClientSockets<'a, H> {
+    fn wait(&mut self) -> io::Result<()> {
+        self.places.forget_writable();
+        self.now = Instant::now(self.rt)?;
+        let timeout = self.timeout();
+        self.poll.poll(&mut self.events, timeout)?;
+        self.now = Instant::now(self.rt)?;
+        self.take_signs();
+        if has_come(self.retry, self.now) {
+            self.retry = None;
+        }
+        self.places.find_silent(self.now);
+        self.places.begin();
+        Ok(())
+    }
+
+    fn admit(&mut self) -> Option<usize> {
+        for _ in 0..GUESTS {
+            if !self.is_open() {
+                return None;
+            }
+            if let Some(stream) = self.accept() {
+                if let Some(place) = self.seat(stream) {
+                    return Some(place);
+                }
+            }
+        }
+        None
+    }
+
+    fn writable(&self) -> &[usize] {
+        self.places.writable()
+    }
+
+    fn send(&mut self, place: usize, bytes: &[u8]) -> usize {
+        let now = self.now;
+        let Some(slot) = self.places.slot(place) else {
+            return 0;
+        };
+        let count = slot.write(bytes, now);
+        if slot.has_failed {
+            // Its client is to hear of it.
+            self.places.list(place);
+        }
+        count
+    }
+
+    fn has_failed(&self, place: usize) -> bool {
+        self.places.has_failed(place)
+    }
+
+    fn leave(&mut self, place: usize, is_at_fault: bool) {
+        self.places.leave(place, is_at_fault, self.now);
+    }
+}
+
+// Whether an error says only that the client or the way to it is gone, and nothing of the device.
+// Linux reports such errors as it accepts a client.
+fn is_of_a_client(kind: ErrorKind) -> bool {
+    matches!(
+        kind,
+        ErrorKind::ConnectionAborted
+            | ErrorKind::ConnectionReset
+            | ErrorKind::HostUnreachable
+            | ErrorKind::NetworkUnreachable
+            | ErrorKind::NetworkDown
+            | ErrorKind::TimedOut
+            | ErrorKind::Interrupted
+    )
+}

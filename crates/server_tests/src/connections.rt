@@ -1,0 +1,287 @@
+//! The sessions of clients who are served at once, over connections in memory.
+ghost use Rattle.std.specs.Prelude.{◌≡◌, ◌≤◌, length, None};
+ghost use Rattle.std.specs.List.{All};
+ghost use Rattle.bank_server.specs.Clients.{IsReady};
+
+use crate::bank::{expect, expect_bytes, joined, opened};
+use crate::wire::{DEPOSIT, DONE, FLUSH, OTHER};
+use bank_clients::{Connections, Over, Sessions};
+use bank_server::{Arrival, Arrivals, Primary, SessionFault};
+use cown_workers::InlineCrew;
+use sb_checkpoint::MemoryStore;
+use sb_frames::FrameFault;
+use std::alloc::Global;
+use std::io;
+use std::process::Abort;
+
+// What there is before a turn: the places of those who come, what arrives and at which place, how many
+// bytes each connection takes at once, and which of them fail.
+#[derive(Clone, Copy)]
+struct Round<'a> {
+    guests: &'a [usize],
+    pieces: &'a [(usize, Option<&'a [u8]>)],
+    takes: usize,
+    broken: &'a [usize],
+}
+
+const QUIET: Round<'static> = Round {
+    guests: &[],
+    pieces: &[],
+    takes: 1_000,
+    broken: &[],
+};
+
+// Connections in memory, at two places.
+#[derive(Drop)]
+struct Wires<'a> {
+    rounds: &'a [Round<'a>],
+    now: Round<'a>,
+    sent: Vec<Vec<u8>>,
+    left: Vec<(usize, bool)>,
+}
+
+impl Arrivals for Wires<'_> {
+    ghost coming = { λ wires. None };
+
+    ghost sent = { λ wires. None };
+
+    fn next(&mut self, chunk: &mut [u8]) -> Option<Arrival> {
+        let ((client, piece), rest) = self.now.pieces.split_first()?;
+        self.now.pieces = rest;
+        let read = match piece {
+            Some(bytes) => Some(put(bytes, chunk)),
+            None => None,
+        };
+        Some(Arrival {
+            client: *client,
+            read,
+        })
+    }
+}
+
+// Puts bytes at the front of a chunk, as far as they fit, and answers how many.
+fn put(bytes: &[u8], chunk: &mut [u8]) -> usize
+    ensures { result ≤ length chunk.new }
+{
+    let count = bytes.len().min(chunk.len());
+    chunk[..count].copy_from_slice(&bytes[..count]);
+    count
+}
+
+impl Connections for Wires<'_> {
+    fn wait(&mut self) -> io::Result<()> {
+        self.now = QUIET;
+        if let Some((next, rest)) = self.rounds.split_first() {
+            self.now = *next;
+            self.rounds = rest;
+        }
+        Ok(())
+    }
+
+    fn admit(&mut self) -> Option<usize> {
+        let (guest, rest) = self.now.guests.split_first()?;
+        self.now.guests = rest;
+        Some(*guest)
+    }
+
+    fn writable(&self) -> &[usize] {
+        &[0, 1]
+    }
+
+    fn send(&mut self, place: usize, bytes: &[u8]) -> usize {
+        let count = bytes.len().min(self.now.takes);
+        match self.sent.get_mut(place) {
+            Some(sent) if sent.extend_from_slice(&bytes[..count]).is_ok() => count,
+            _ => 0,
+        }
+    }
+
+    fn has_failed(&self, place: usize) -> bool {
+        self.now.broken.contains(&place)
+    }
+
+    fn leave(&mut self, place: usize, is_at_fault: bool) {
+        let _ = self.left.push((place, is_at_fault));
+    }
+}
+
+// Rounds, what each of two connections took by their end, whose sessions were over and how, in order,
+// and the length of the log then.
+#[derive(Clone, Copy)]
+struct Case<'a> {
+    rounds: &'a [Round<'a>],
+    sent: [&'a [&'a [u8]]; PLACES],
+    over: &'a [Over],
+    calls: u64,
+}
+
+// How many places there are.
+const PLACES: usize = 2;
+
+// Serves all rounds, and answers whose sessions were over.
+fn serve_rounds(
+    rt: &impl Abort,
+    alloc: Global,
+    rounds: usize,
+    sessions: &mut Sessions<Wires<'_>>,
+    primary: &mut Primary<MemoryStore>,
+) -> Vec<Over>
+    requires ready { All (λ client. IsReady (length primary.old.log) client) sessions.old.clients.all }
+{
+    let mut found = Vec::new(alloc);
+    for _ in 0..rounds {
+        sessions.wait().expect(rt, "a round");
+        sessions
+            .serve(primary, &mut InlineCrew)
+            .expect(rt, "a turn");
+        while let Some(over) = sessions.next_over() {
+            sessions.leave(over);
+            found.push(over).expect(rt, "memory");
+        }
+    }
+    found
+}
+
+fn expect_case(rt: &impl Abort, alloc: Global, case: &Case) {
+    let mut primary = opened(rt, alloc);
+    let mut sent = Vec::new(alloc);
+    for _ in 0..PLACES {
+        sent.push(Vec::new(alloc)).expect(rt, "memory");
+    }
+    let wires = Wires {
+        rounds: case.rounds,
+        now: QUIET,
+        sent,
+        left: Vec::new(alloc),
+    };
+    let mut sessions = Sessions::open(alloc, wires, PLACES).expect(rt, "memory for sessions");
+    let over = serve_rounds(rt, alloc, case.rounds.len(), &mut sessions, &mut primary);
+    let wires = sessions.connections();
+    assert!(rt; over.as_slice() == case.over, "{over:?}");
+    for (bytes, wanted) in wires.sent.iter().zip(case.sent) {
+        let wanted = joined(rt, alloc, wanted);
+        expect_bytes(rt, bytes, &wanted, "what a connection took");
+    }
+    for ((place, is_at_fault), over) in wires.left.iter().zip(&over) {
+        let broke_a_rule = matches!(
+            over.ending,
+            Err(SessionFault::Frame(_) | SessionFault::Unexpected | SessionFault::TooMany)
+        );
+        expect(rt, *place == over.place, "who is left");
+        expect(rt, *is_at_fault == broke_a_rule, "who is notified");
+    }
+    expect(rt, primary.log().length() == case.calls, "the log");
+}
+
+const ENDED: Result<(), SessionFault> = Ok(());
+
+// The outcome of client 7's deposit for alice.
+const OTHER_DONE: &[u8] =
+    b"\x00\x13\x05\x00\x00\x00\x07\x00\x00\x00\x01\x00\x01\x00\x00\x00\x00\x00\x00\x00\x00";
+
+const CASES: &[Case<'static>] = &[
+    // A connection takes ten bytes at once, so that it takes rounds. Meanwhile the other is told all.
+    Case {
+        rounds: &[
+            Round {
+                guests: &[0, 1],
+                pieces: &[(0, Some(OTHER)), (0, Some(FLUSH))],
+                takes: 10,
+                broken: &[],
+            },
+            Round {
+                pieces: &[(1, Some(DEPOSIT)), (0, Some(b""))],
+                takes: 10,
+                ..QUIET
+            },
+            Round {
+                pieces: &[(1, Some(FLUSH))],
+                ..QUIET
+            },
+        ],
+        sent: [&[OTHER_DONE], &[DONE]],
+        over: &[Over {
+            place: 0,
+            ending: ENDED,
+        }],
+        calls: 2,
+    },
+    // A place is another client's then: it is told its own outcomes alone, and the same ask is no new
+    // one. The first one broke a rule.
+    Case {
+        rounds: &[
+            Round {
+                guests: &[1],
+                pieces: &[(1, Some(OTHER)), (1, Some(b"\x00\x01\x09"))],
+                ..QUIET
+            },
+            Round {
+                guests: &[1],
+                pieces: &[(1, Some(OTHER)), (1, Some(FLUSH)), (1, Some(b""))],
+                ..QUIET
+            },
+        ],
+        sent: [&[], &[OTHER_DONE]],
+        over: &[
+            Over {
+                place: 1,
+                ending: Err(SessionFault::Frame(FrameFault::UnknownTag)),
+            },
+            Over {
+                place: 1,
+                ending: ENDED,
+            },
+        ],
+        calls: 1,
+    },
+    // A connection that takes nothing isn't over until it fails. What its client asked stands.
+    Case {
+        rounds: &[
+            Round {
+                guests: &[0],
+                pieces: &[(0, Some(DEPOSIT)), (0, Some(FLUSH)), (0, Some(b""))],
+                takes: 0,
+                broken: &[],
+            },
+            Round { takes: 0, ..QUIET },
+            Round {
+                takes: 0,
+                broken: &[0],
+                ..QUIET
+            },
+        ],
+        sent: [&[], &[]],
+        over: &[Over {
+            place: 0,
+            ending: Err(SessionFault::Device),
+        }],
+        calls: 1,
+    },
+    // A connection that fails ends its client at once, and no other.
+    Case {
+        rounds: &[
+            Round {
+                guests: &[0, 1],
+                pieces: &[(1, Some(DEPOSIT)), (0, None)],
+                ..QUIET
+            },
+            Round {
+                pieces: &[(1, Some(FLUSH))],
+                ..QUIET
+            },
+        ],
+        sent: [&[], &[DONE]],
+        over: &[Over {
+            place: 0,
+            ending: Err(SessionFault::Device),
+        }],
+        calls: 1,
+    },
+];
+
+#[test]
+fn connections_take_what_is_theirs(rt: HostRuntime) {
+    for case in CASES {
+        expect_case(&rt, rt.alloc(), case);
+    }
+}
