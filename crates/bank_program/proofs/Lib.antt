@@ -5,6 +5,7 @@ pub mod FoundBanks
 pub mod OptionSearch
 pub mod OptionValues
 pub mod PrintedLines
+pub mod ServingAtOnce
 pub mod SessionsInOrder
 pub mod SubcommandWords
 pub mod UnheardClients

@@ -35,7 +35,7 @@ PrintsLines-trans a b c xs ys first second =
     (Appends-trans a b c (unlines xs) (unlines ys) first second)
 
 -- one more session
-session_lines-push : (first : ℕ) (ends : List End) (end : End)
+pub session_lines-push : (first : ℕ) (ends : List End) (end : End)
     → session_lines first (ends ++ end ∷ []) ≡ session_lines first ends ++ session_line (first + length ends) end ∷ []
 unfolding session_lines
 session_lines-push first [] end = ap (λ (n : ℕ). session_line n end ∷ []) (omega arith)

@@ -6,6 +6,7 @@ pub mod OpenedBank
 pub mod Opening
 pub mod ServeFaults
 pub mod ServeOutput
+pub mod ServedAtOnce
 pub mod ServedBank
 pub mod Sessions
 pub mod StoreAfter

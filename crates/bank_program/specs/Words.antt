@@ -1,5 +1,5 @@
 -- The program's words; the first is its name.
-use Rattle.std.specs.Prelude.{◌≡◌, ◌≤◌, ◌⊎◌, ◌-◌, ◌^◌, if◌then◌else◌, Bool, false, ℕ, Option, Some, None, List, [], ◌∷◌, ◌++◌, String, codes, map, string_bytes, is_some, IfSome}
+use Rattle.std.specs.Prelude.{◌≡◌, ◌≤◌, ◌⊎◌, ◌-◌, ◌^◌, ◌||◌, if◌then◌else◌, Bool, false, ℕ, Option, Some, None, List, [], ◌∷◌, ◌++◌, String, codes, map, string_bytes, is_some, IfSome}
 use Rattle.std.specs.Borrow.{Bor}
 use Rattle.std.specs.Str.Parse.{IsNumeral, digits_value, without_leading_plus}
 use Rattle.clap.specs.declared.error.kind.ErrorKind.{ErrorKind}
@@ -29,15 +29,22 @@ module _ {A : Type 0} where
   NamesProgram (Log folder action) (name ∷ []) = ⊥
   NamesProgram (Log folder action) (name ∷ program ∷ options) = string_bytes program ≡ codes "log"
 
--- the sessions of a bank that isn't told their number: without a log one, and with one as many as a
--- machine counts
-abbrev pub usual_sessions : Bool → ℕ
-usual_sessions logs = if logs then 2 ^ 64 - 1 else 1
+-- a bank with a log, or with many clients at once, may be served without end
+abbrev pub may_be_endless : Bool → Option ℕ → Bool
+may_be_endless logs clients = logs || is_some clients
 
--- a plan has at least one session, and without a log at most 1,000; it has 1 to REPLICAS nodes, 0 to
--- WORKERS workers, and its patience, if it has one, is 1 second to a day
+-- the sessions of a bank that isn't told their number: one, or as many as a machine counts if it may be
+-- served without end
+abbrev pub usual_sessions : Bool → ℕ
+usual_sessions endless = if endless then 2 ^ 64 - 1 else 1
+
+-- a plan has at least one session, and at most 1,000 if it can't be without end; it has 1 to 1,000
+-- clients at once, if it says how many; it has 1 to REPLICAS nodes, 0 to WORKERS workers, and its
+-- patience, if it has one, is 1 second to a day
 abbrev pub IsPlanInRange : Bool → Plan → Type 0
-IsPlanInRange logs plan = (1 ≤ plan.sessions) × (logs ≡ false → plan.sessions ≤ 1000) × (1 ≤ plan.nodes)
+IsPlanInRange logs plan = (1 ≤ plan.sessions)
+    × (may_be_endless logs plan.clients ≡ false → plan.sessions ≤ 1000)
+    × IfSome plan.clients (λ count. (1 ≤ count) × (count ≤ 1000)) × (1 ≤ plan.nodes)
     × (plan.nodes ≤ REPLICAS)
     × (plan.workers ≤ WORKERS) × IfSome plan.patience (λ seconds. (1 ≤ seconds) × (seconds ≤ 86400))
 
@@ -103,11 +110,13 @@ module _ {A : Type 0} where
   GivesCounts nodes workers words = HasIntegerOrDefault (codes "--nodes") 1 nodes (map string_bytes words)
       × HasIntegerOrDefault (codes "--workers") 0 workers (map string_bytes words)
 
-  -- the numbers of sessions, nodes and workers that these words give, or the defaults; and the seconds of
-  -- patience, if they give any
+  -- the numbers of sessions, nodes and workers that these words give, or the defaults; and the number of
+  -- clients at once and the seconds of patience, if they give any
   abbrev pub GivesPlan : Bool → Plan → List (String A) → Type 0
   GivesPlan logs plan words =
-      HasIntegerOrDefault (codes "--sessions") (usual_sessions logs) plan.sessions (map string_bytes words)
+      HasIntegerOrDefault (codes "--sessions") (usual_sessions (may_be_endless logs plan.clients)) plan.sessions
+      (map string_bytes words)
+      × MayHaveInteger (codes "--clients") plan.clients (map string_bytes words)
       × GivesCounts plan.nodes plan.workers words
       × MayHaveInteger (codes "--patience") plan.patience (map string_bytes words)
 

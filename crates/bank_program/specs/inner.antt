@@ -1,4 +1,5 @@
 pub mod FindSteps
+pub mod AtOnceSteps
 pub mod ServeSteps
 pub mod StepFaults
 pub mod WordValues

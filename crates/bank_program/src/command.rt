@@ -19,12 +19,14 @@ prints
   alice 100.00 51.00
   total 151.00";
 
-const SERVE: &str = "Serves clients over TCP, one after the other, on this machine alone.
+const SERVE: &str =
+    "Serves clients over TCP, on this machine alone: one after the other, or with --clients N up to N at once.
 
 Reads an opening from standard input, as `run` does, with nothing behind its line `begin`. Prints where
 it listens, a line as each session ends, and at the end the rows of all customers and the total. A
 client at fault ends its own session, which is told by the number of the fault: 1 is a bad frame, 2 a
-frame that is no request, and 4 a connection that broke, or was waited for longer than --patience says.
+frame that is no request, 4 a connection that broke, or was waited for longer than --patience says,
+and 7 too many requests before a flush.
 
 With --log each request is in FOLDER/log, and on the disk, before its client is told the outcome. A
 server that starts on such a log goes on with it. It prints a line `log CALLS DIGEST` first, and again
@@ -76,6 +78,7 @@ fn serve<'a>(alloc: Global) -> Result<Command<'a>, AllocError> {
     let args = [
         port(alloc),
         sessions(alloc),
+        clients(alloc),
         nodes(alloc),
         workers(alloc),
         store(alloc),
@@ -110,7 +113,13 @@ fn port<'a>(alloc: Global) -> Arg<'a> {
 
 fn sessions<'a>(alloc: Global) -> Arg<'a> {
     number(alloc, "sessions", "1..1000", 1, i64::MAX).help(
-        "How many clients are served before the program ends: without --log 1 to 1000, and 1 if not given",
+        "How many sessions there are before the program ends: without --log and --clients 1 to 1000, and 1 if not given",
+    )
+}
+
+fn clients<'a>(alloc: Global) -> Arg<'a> {
+    number(alloc, "clients", "1..1000", 1, 1_000).help(
+        "How many clients are served at once; one more is hung up on. Without it one is served after the other",
     )
 }
 

@@ -3,7 +3,7 @@ ghost use Rattle.std.specs.Prelude.{◌≡◌, [], ◌∷◌, ◌++◌, codes, d
 ghost use Rattle.hex.specs.Hex.{encode_lower};
 ghost use Rattle.bank_server.specs.Primary.{HasWholeLog};
 ghost use Rattle.bank_program.specs.inner.StepFaults.{IsPrintFault};
-ghost use Rattle.bank_program.specs.ServeOutput.{PrintsLines, end_text, session_line};
+ghost use Rattle.bank_program.specs.ServeOutput.{PrintsLines, end_text, port_line, session_line};
 ghost use Rattle.bank_program.specs.inner.ServeSteps.{PrintsLog, PrintsPort, PrintsRows};
 
 use crate::listener::ClientListener;
@@ -29,6 +29,21 @@ pub(crate) fn print_port<D: ClientListener, W: Write>(
     ensures fault { IfErr result IsPrintFault }
 {
     let port = listener.port()?;
+    print_port_number(alloc, port, writer)
+}
+
+/// Prints the address of a server that listens at this port.
+///
+/// Fails if a write fails, or if memory is refused.
+pub(crate) fn print_port_number<W: Write>(
+    alloc: Global,
+    port: u16,
+    writer: &mut W,
+) -> Result<(), ServeFault>
+    ensures printed { OnOk result (PrintsLines (port_line port ∷ [])
+        (W.contents writer.old) (W.contents writer.new)) }
+    ensures fault { IfErr result IsPrintFault }
+{
     let mut line = numbered(alloc, b"listening 127.0.0.1:", usize::from(port))?;
     print_line(&mut line, writer)
 }

@@ -10,6 +10,7 @@ use crate::listening::listen;
 use crate::log_report::{CutReport, LogReport};
 use crate::opened_bank::open_on_file;
 use crate::opening::whole_opening;
+use crate::program_clients::serve_clients_at;
 use crate::program_log::LOG;
 use crate::serve_fault::ServeFault;
 use crate::server::Server;
@@ -23,6 +24,7 @@ use sb_log::{Reason, SystemFile};
 use sb_rows::Opening;
 use sb_sequencer::REPLICAS;
 use sb_text::read_all;
+use std::alloc::{AllocError, Global};
 use std::io::{Read, Write};
 use std::net::{Net, OpenStream};
 use std::sync::Wait;
@@ -140,6 +142,9 @@ where
     requires no_entries { HasNoEntries opened.value.node.board }
     ensures fault { IfErr result (IsProgramFault port plan false true) }
 {
+    if let Some(clients) = plan.clients {
+        return serve_clients_at(rt, threads, port, opened, clients, plan);
+    }
     let listener = SocketListener::new(threads, listen(threads, port)?);
     serve_bank(
         threads,
@@ -209,6 +214,10 @@ where
     requires workers { plan.workers ≤ WORKERS }
     ensures fault { IfErr result (IsProgramFault port plan false false) }
 {
+    if let Some(clients) = plan.clients {
+        let primary = boxed_primary(rt.alloc(), opening, store)?;
+        return serve_clients_at(rt, threads, port, primary, clients, plan);
+    }
     let listener = SocketListener::new(threads, listen(threads, port)?);
     serve(
         threads,
@@ -220,4 +229,16 @@ where
         rt.stdout(),
     )?;
     Ok(())
+}
+
+// A bank at an opening. The function owns nothing else, so that a `?` has little to drop.
+fn boxed_primary<S: CheckpointStore>(
+    alloc: Global,
+    opening: Box<Opening>,
+    store: S,
+) -> Result<Box<Primary<S>>, AllocError>
+    ensures no_entries { IfOk result (λ primary. HasNoEntries primary.value.node.board) }
+{
+    let primary = Primary::open(alloc, Box::into_inner(opening), store)?;
+    Ok(Box::new(alloc, primary)?)
 }

@@ -1,7 +1,7 @@
 //! The program's words.
 ghost use Rattle.std.specs.Prelude.{◌≡◌, IfErr, IfOk, IfSome, true, string_bytes};
 ghost use Rattle.clap.specs.Values.{kind_of};
-ghost use Rattle.bank_program.specs.Words.{InRange, IsFlagOf, IsPlanInRange, IsRefusal, NamesProgram, GivesValues, usual_sessions};
+ghost use Rattle.bank_program.specs.Words.{InRange, IsFlagOf, IsPlanInRange, IsRefusal, NamesProgram, GivesValues, may_be_endless, usual_sessions};
 ghost use Rattle.bank_program.specs.inner.WordValues.{SaysLog};
 ghost use Rattle.bank_program.specs.inner.WordValues.{IsLogWordsOf, IsPlanOf, IsReadOf, IsRunOf, IsServeOf};
 
@@ -17,8 +17,8 @@ use std::alloc::{AllocError, Global};
 
 // The text for words that clap takes and `parse_words` doesn't. None are known.
 const UNREAD: &str =
-    "these take 1 to 16 nodes, 0 to 16 workers, 1 to 1000 sessions without a log, 1 to 86400 seconds \
-    and a port, as plain numbers, and a log's folder with one flag at most";
+    "these take 1 to 16 nodes, 0 to 16 workers, 1 to 1000 clients at once, 1 to 1000 sessions without \
+    these or a log, 1 to 86400 seconds and a port, as plain numbers, and a log's folder with one flag at most";
 
 const NO_TEXT: &str = "a word isn't UTF-8";
 
@@ -63,7 +63,7 @@ pub enum LogAction {
     Cut,
 }
 
-// How many sessions a bank with a log serves, unless it is told: more than any machine can.
+// How many sessions a bank that is served without end has: more than any machine can.
 const ENDLESS: usize = usize::MAX;
 
 /// Reads the program's words; the first is its name. Without further words it is `run`.
@@ -220,8 +220,10 @@ fn action_of(word: &String) -> Option<LogAction>
 fn plan_of(options: &[String], saves: bool, logs: bool) -> Option<Plan>
     ensures { IfSome result (λ plan. IsPlanOf options.now saves logs plan) }
 {
+    let clients = parse_optional(options, "--clients")?;
+    let usual = usual_sessions(may_be_endless(logs, clients));
     let (Some(sessions), Some(nodes), Some(workers), Some(patience)) = (
-        parse_count(options, "--sessions", usual_sessions(logs)),
+        parse_count(options, "--sessions", usual),
         parse_count(options, "--nodes", 1),
         parse_count(options, "--workers", 0),
         parse_optional(options, "--patience"),
@@ -230,6 +232,7 @@ fn plan_of(options: &[String], saves: bool, logs: bool) -> Option<Plan>
     };
     let plan = Plan {
         sessions,
+        clients,
         nodes,
         workers,
         saves,
@@ -242,14 +245,21 @@ fn plan_of(options: &[String], saves: bool, logs: bool) -> Option<Plan>
     }
 }
 
-// How many sessions there are, unless the words say it.
-fn usual_sessions(logs: bool) -> usize
-    ensures { result ≡ usual_sessions logs }
+// Whether a bank that keeps a log or doesn't, with so many clients at once, may be served without end.
+fn may_be_endless(logs: bool, clients: Option<usize>) -> bool
+    ensures { result ≡ may_be_endless logs clients }
 {
-    if logs { ENDLESS } else { 1 }
+    logs || clients.is_some()
 }
 
-// Whether a plan's numbers are within their limits. With a log there may be any number of sessions.
+// How many sessions there are, unless the words say it.
+fn usual_sessions(endless: bool) -> usize
+    ensures { result ≡ usual_sessions endless }
+{
+    if endless { ENDLESS } else { 1 }
+}
+
+// Whether a plan's numbers are within their limits.
 fn is_in_range(plan: &Plan, logs: bool) -> bool
     ensures { result ≡ true → IsPlanInRange logs plan.now }
 {
@@ -257,9 +267,14 @@ fn is_in_range(plan: &Plan, logs: bool) -> bool
         Some(seconds) => (1..=86_400).contains(&seconds),
         None => true,
     };
+    let are_few = match plan.clients {
+        Some(count) => (1..=1_000).contains(&count),
+        None => true,
+    };
     is_patient
+        && are_few
         && 1 <= plan.sessions
-        && (logs || plan.sessions <= 1_000)
+        && (may_be_endless(logs, plan.clients) || plan.sessions <= 1_000)
         && (1..=REPLICAS).contains(&plan.nodes)
         && plan.workers <= WORKERS
 }

@@ -84,6 +84,7 @@ where
     let told = Box::new(alloc, Transcript::new(alloc)).expect(rt, "a box");
     let plan = Plan {
         sessions: 1,
+        clients: None,
         nodes: 1,
         workers: 0,
         saves: false,

@@ -86,6 +86,7 @@ fn each_client_gets_its_outcomes(rt: HostRuntime) {
     let opening = read_opening(alloc, OPENING).expect(&rt, "an opening");
     let plan = Plan {
         sessions: 3,
+        clients: None,
         nodes: 1,
         workers: 0,
         saves: false,

@@ -45,6 +45,7 @@ fn serve_on(
     let mut written: Vec<u8> = Vec::new(alloc);
     let plan = Plan {
         sessions: clients.len(),
+        clients: None,
         nodes: 2,
         workers: 0,
         saves: false,

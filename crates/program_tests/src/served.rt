@@ -102,6 +102,7 @@ fn two_sessions_and_one_at_fault(rt: HostRuntime) {
         for saves in [false, true] {
             let plan = Plan {
                 sessions: 3,
+                clients: None,
                 nodes,
                 workers,
                 saves,
@@ -137,6 +138,7 @@ fn sessions_at_fault(rt: HostRuntime) {
     ];
     let plan = Plan {
         sessions: 7,
+        clients: None,
         nodes: 2,
         workers: 1,
         saves: true,
@@ -155,6 +157,7 @@ fn nobody_else_is_let_in(rt: HostRuntime) {
     let alloc = rt.alloc();
     let plan = Plan {
         sessions: 2,
+        clients: None,
         nodes: 1,
         workers: 0,
         saves: false,
@@ -181,6 +184,7 @@ fn stores_that_fail(rt: HostRuntime) {
     let clients = [plain(ASKED), plain(b"")];
     let plan = Plan {
         sessions: 2,
+        clients: None,
         nodes: 1,
         workers: 0,
         saves: true,
@@ -228,6 +232,7 @@ fn serve_one_beside(
         alloc,
         plan: Plan {
             sessions: 1,
+            clients: None,
             nodes,
             workers: 0,
             saves: false,

@@ -58,6 +58,7 @@ fn clients_over_sockets(rt: HostRuntime) {
             let store = MemoryStore::new(alloc);
             let plan = Plan {
                 sessions: 2,
+                clients: None,
                 nodes: 2,
                 workers: 1,
                 saves: true,

@@ -69,6 +69,7 @@ fn words_of_the_program(rt: HostRuntime) {
 // A bank that is served with no option but the port.
 const SERVED_AS_USUAL: Plan = Plan {
     sessions: 1,
+    clients: None,
     nodes: 1,
     workers: 0,
     saves: false,
@@ -78,6 +79,7 @@ const SERVED_AS_USUAL: Plan = Plan {
 // A bank that is served with the greatest number for each option.
 const SERVED_AT_MOST: Plan = Plan {
     sessions: 1_000,
+    clients: None,
     nodes: 16,
     workers: 16,
     saves: true,

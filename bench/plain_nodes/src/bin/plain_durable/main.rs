@@ -4,14 +4,11 @@
 //! `plain_durable serve --port P --log FOLDER [--sessions K] < OPENING`. Without `--sessions` it serves
 //! without end.
 
-mod bank;
-mod log_file;
 mod session;
-mod sha256;
 
-use bank::Books;
-use log_file::{Body, LogFault, LogFile};
-use plain_nodes::shared::input::LineFault;
+use plain_nodes::books::Books;
+use plain_nodes::log_file::LogFile;
+use plain_nodes::starting::{StartFault, open, push_digest};
 use session::{Session, SessionFault};
 use std::env;
 use std::io::{self, Read, Write};
@@ -19,13 +16,11 @@ use std::net::{Ipv4Addr, Shutdown, TcpListener, TcpStream};
 use std::path::PathBuf;
 use std::process::ExitCode;
 
-const BEGIN: &[u8] = b"begin\n";
 // How many bytes of a client at fault are skipped, so that it can read what it was sent.
 const PASSED_OVER: u64 = 1024 * 1024;
 
 enum Fault {
-    Input(LineFault),
-    Log(LogFault),
+    Start(StartFault),
     // A session had told it already.
     Session,
     Device,
@@ -70,55 +65,6 @@ impl Words {
     }
 }
 
-/// The bank after its log, and the log.
-fn open(words: &Words) -> Result<(Books, LogFile), Fault> {
-    let mut books = None;
-    let (mut log, found) = LogFile::open(&words.folder, |body| match body {
-        Body::Opening(text) => {
-            books = Books::open(text.to_vec())
-                .ok()
-                .filter(|_| text.ends_with(BEGIN));
-            books.is_some()
-        }
-        Body::Batch(body) => books.as_mut().is_some_and(|books| books.take_batch(body)),
-    })
-    .map_err(Fault::Log)?;
-    if found.torn > 0 {
-        eprintln!(
-            "smallbank: log: cut {} bytes of a record that wasn't whole",
-            found.torn
-        );
-    }
-    let mut text = Vec::new();
-    io::stdin().lock().read_to_end(&mut text)?;
-    if !text.is_empty() && !text.ends_with(b"\n") {
-        text.push(b'\n');
-    }
-    match (books, found.opening) {
-        (Some(books), Some(opening)) => {
-            if !text.is_empty() && text != opening {
-                return Err(Fault::Log(LogFault::AnotherOpening));
-            }
-            Ok((books, log))
-        }
-        _ => {
-            let books = Books::open(text.clone()).map_err(Fault::Input)?;
-            let path = words.folder.join("log");
-            log.begin(&text)
-                .map_err(|error| Fault::Log(LogFault::System(path, error)))?;
-            Ok((books, log))
-        }
-    }
-}
-
-fn push_digest(out: &mut Vec<u8>, books: &Books, log: &LogFile) -> io::Result<()> {
-    write!(out, "log {} ", books.length())?;
-    for byte in log.digest() {
-        write!(out, "{byte:02x}")?;
-    }
-    writeln!(out)
-}
-
 fn print(bytes: &[u8]) -> io::Result<()> {
     let mut stdout = io::stdout().lock();
     stdout.write_all(bytes)?;
@@ -126,7 +72,7 @@ fn print(bytes: &[u8]) -> io::Result<()> {
 }
 
 fn serve(words: &Words) -> Result<(), Fault> {
-    let (mut books, mut log) = open(words)?;
+    let (mut books, mut log) = open(&words.folder).map_err(Fault::Start)?;
     let listener = TcpListener::bind((Ipv4Addr::LOCALHOST, words.port))?;
     let mut out = Vec::new();
     push_digest(&mut out, &books, &log)?;
@@ -173,21 +119,17 @@ fn hang_up(stream: &TcpStream) {
     let _ = io::copy(&mut stream.take(PASSED_OVER), &mut io::sink());
 }
 
-fn tell(fault: &Fault) {
+// The exit status, once it is told.
+fn tell(fault: &Fault) -> u8 {
     match fault {
         Fault::Session => {}
         Fault::Device => eprintln!("smallbank: device"),
-        Fault::Input(LineFault { line, fault }) => eprintln!("smallbank: line {line}: {fault}"),
-        Fault::Log(LogFault::InUse) => eprintln!("smallbank: log: in use"),
-        Fault::Log(LogFault::AnotherOpening) => eprintln!("smallbank: log: another opening"),
-        Fault::Log(LogFault::Damaged(byte, following)) => {
-            eprintln!("smallbank: log: damaged at byte {byte}");
-            eprintln!("smallbank: log: {following} bytes follow");
-        }
-        Fault::Log(LogFault::System(path, error)) => {
-            eprintln!("smallbank: log: {}: {error}", path.display());
+        Fault::Start(fault) => {
+            fault.tell();
+            return fault.status();
         }
     }
+    3
 }
 
 fn main() -> ExitCode {
@@ -197,9 +139,6 @@ fn main() -> ExitCode {
     };
     match serve(&words) {
         Ok(()) => ExitCode::SUCCESS,
-        Err(fault) => {
-            tell(&fault);
-            ExitCode::from(if let Fault::Input(_) = fault { 1 } else { 3 })
-        }
+        Err(fault) => ExitCode::from(tell(&fault)),
     }
 }

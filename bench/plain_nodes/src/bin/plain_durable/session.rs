@@ -1,8 +1,8 @@
 //! A session over a bank whose log is kept: nobody is told an outcome before the log has its ask.
 
-use crate::bank::Books;
-use crate::log_file::LogFile;
+use plain_nodes::books::Books;
 use plain_nodes::frames::{Frame, FrameFault, push_frame, read_frame};
+use plain_nodes::log_file::LogFile;
 use plain_nodes::sequencer::Asked;
 use plain_nodes::shared::input::Key;
 use std::io::{self, Read, Write};

@@ -1,11 +1,11 @@
 //! A log of asks, and the bank that executes it: the number of each key, the calls, replies, columns.
 
-use plain_nodes::frames::{Frame, Outcome, read_frame};
-use plain_nodes::op::{OP_COWNS, Op};
-use plain_nodes::sequencer::{Asked, Sequencer};
-use plain_nodes::shared::bank::Bank;
-use plain_nodes::shared::input::{self, Call, Key, LineFault, lines};
-use plain_nodes::shared::output::{Reply, push_rows};
+use crate::frames::{Frame, Outcome, read_frame};
+use crate::op::{OP_COWNS, Op};
+use crate::sequencer::{Asked, Sequencer};
+use crate::shared::bank::Bank;
+use crate::shared::input::{self, Call, Key, LineFault, lines};
+use crate::shared::output::{Reply, push_rows};
 
 /// A bank without nodes, workers or a board: it executes each call as it is numbered.
 pub struct Books {

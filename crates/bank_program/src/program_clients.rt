@@ -1,0 +1,65 @@
+//! The program that serves many clients at once.
+ghost use Rattle.std.specs.Prelude.{◌≡◌, ◌⊎◌, ◌≤◌, ◌<◌, IfErr};
+ghost use Rattle.bank_server.specs.Execution.{HasNoEntries};
+ghost use Rattle.bank_program.specs.ServeFaults.{IsPortFault, IsServingFault};
+
+use crate::listening::listen_for_many;
+use crate::many_server::ManyServer;
+use crate::serve_fault::ServeFault;
+use crate::serving::Plan;
+use crate::serving_many::serve_many;
+use bank_clients::{ClientSockets, Limits, Sessions};
+use bank_server::Primary;
+use cown_bench::WORKERS;
+use sb_ask_log::Keeper;
+use sb_checkpoint::CheckpointStore;
+use sb_sequencer::REPLICAS;
+use std::net::Net;
+use std::sync::Wait;
+use std::thread::Threads;
+use std::time::{Clock, Duration};
+
+/// Serves up to this many clients of a bank at once, at a port.
+pub(crate) fn serve_clients_at<H, S, K>(
+    rt: &HostRuntime,
+    threads: &H,
+    port: u16,
+    primary: Box<Primary<S, K>>,
+    clients: usize,
+    plan: Plan,
+) -> Result<(), ServeFault>
+where
+    H: Threads + Wait + Clock + Sync + Net,
+    S: CheckpointStore,
+    K: Keeper,
+    requires nodes { plan.nodes ≤ REPLICAS }
+    requires workers { plan.workers ≤ WORKERS }
+    requires no_entries { HasNoEntries primary.value.node.board }
+    ensures fault { IfErr result (λ fault. IsPortFault port fault
+        ⊎ IsServingFault plan.nodes (0 < plan.workers) plan.saves K.fails fault) }
+{
+    let alloc = rt.alloc();
+    let limits = Limits {
+        at_once: clients,
+        in_all: plan.sessions,
+        patience: plan
+            .patience
+            .map(|seconds| Duration::from_secs(seconds as u64)),
+    };
+    let listener = listen_for_many(threads, port)?;
+    let connections = ClientSockets::new(threads, threads, alloc, listener, limits)?;
+    let port = connections.port()?;
+    let sessions = Sessions::open(alloc, connections, clients)?;
+    serve_many(
+        threads,
+        ManyServer {
+            alloc,
+            plan,
+            port,
+            sessions,
+            primary: Box::into_inner(primary),
+            writer: rt.stdout(),
+        },
+    )?;
+    Ok(())
+}
