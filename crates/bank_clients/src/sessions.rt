@@ -155,7 +155,8 @@ impl<A: Connections> Sessions<A> {
         if self.clients.outcomes(place).is_empty() {
             return Some(Over { place, ending });
         }
-        if self.connections.has_failed(place) {
+        // Who leaves too much unread isn't waited for.
+        if ending == Err(SessionFault::Device) || self.connections.has_failed(place) {
             let ending = Err(SessionFault::Device);
             return Some(Over { place, ending });
         }

@@ -90,9 +90,12 @@ impl Connections for Wires<'_> {
 
     fn send(&mut self, place: usize, bytes: &[u8]) -> usize {
         let count = bytes.len().min(self.now.takes);
-        match self.sent.get_mut(place) {
-            Some(sent) if sent.extend_from_slice(&bytes[..count]).is_ok() => count,
-            _ => 0,
+        let Some(sent) = self.sent.get_mut(place) else {
+            return 0;
+        };
+        match sent.extend_from_slice(&bytes[..count]) {
+            Ok(()) => count,
+            Err(_) => 0,
         }
     }
 
