@@ -35,9 +35,22 @@ const QUIET: Round<'static> = Round {
 #[derive(Drop)]
 struct Wires<'a> {
     rounds: &'a [Round<'a>],
-    now: Round<'a>,
+    // How many rounds have begun, and in this one how many clients came, and how many pieces were taken.
+    begun: usize,
+    came: usize,
+    taken: usize,
     sent: Vec<Vec<u8>>,
     left: Vec<(usize, bool)>,
+}
+
+impl<'a> Wires<'a> {
+    // The round that has begun.
+    fn now(&self) -> Round<'a> {
+        match self.rounds.get(self.begun.saturating_sub(1)) {
+            Some(round) => *round,
+            None => QUIET,
+        }
+    }
 }
 
 impl Arrivals for Wires<'_> {
@@ -46,16 +59,13 @@ impl Arrivals for Wires<'_> {
     ghost sent = { λ wires. None };
 
     fn next(&mut self, chunk: &mut [u8]) -> Option<Arrival> {
-        let ((client, piece), rest) = self.now.pieces.split_first()?;
-        self.now.pieces = rest;
+        let (client, piece) = *self.now().pieces.get(self.taken)?;
+        self.taken = self.taken.saturating_add(1);
         let read = match piece {
             Some(bytes) => Some(put(bytes, chunk)),
             None => None,
         };
-        Some(Arrival {
-            client: *client,
-            read,
-        })
+        Some(Arrival { client, read })
     }
 }
 
@@ -70,18 +80,16 @@ fn put(bytes: &[u8], chunk: &mut [u8]) -> usize
 
 impl Connections for Wires<'_> {
     fn wait(&mut self) -> io::Result<()> {
-        self.now = QUIET;
-        if let Some((next, rest)) = self.rounds.split_first() {
-            self.now = *next;
-            self.rounds = rest;
-        }
+        self.begun = self.begun.saturating_add(1);
+        self.came = 0;
+        self.taken = 0;
         Ok(())
     }
 
     fn admit(&mut self) -> Option<usize> {
-        let (guest, rest) = self.now.guests.split_first()?;
-        self.now.guests = rest;
-        Some(*guest)
+        let guest = *self.now().guests.get(self.came)?;
+        self.came = self.came.saturating_add(1);
+        Some(guest)
     }
 
     fn writable(&self) -> &[usize] {
@@ -89,7 +97,7 @@ impl Connections for Wires<'_> {
     }
 
     fn send(&mut self, place: usize, bytes: &[u8]) -> usize {
-        let count = bytes.len().min(self.now.takes);
+        let count = bytes.len().min(self.now().takes);
         let Some(sent) = self.sent.get_mut(place) else {
             return 0;
         };
@@ -100,7 +108,7 @@ impl Connections for Wires<'_> {
     }
 
     fn has_failed(&self, place: usize) -> bool {
-        self.now.broken.contains(&place)
+        self.now().broken.contains(&place)
     }
 
     fn leave(&mut self, place: usize, is_at_fault: bool) {
@@ -108,7 +116,7 @@ impl Connections for Wires<'_> {
     }
 }
 
-// Rounds, what each of two connections took by their end, whose sessions were over and how, in order,
+// Three rounds at most, what each of two connections took by their end, whose sessions were over and how, in order,
 // and the length of the log then.
 #[derive(Clone, Copy)]
 struct Case<'a> {
@@ -121,28 +129,33 @@ struct Case<'a> {
 // How many places there are.
 const PLACES: usize = 2;
 
-// Serves all rounds, and answers whose sessions were over.
-fn serve_rounds(
+// Serves a round, and leaves the clients whose sessions are over.
+fn serve_round(
     rt: &impl Abort,
-    alloc: Global,
-    rounds: usize,
     sessions: &mut Sessions<Wires<'_>>,
     primary: &mut Primary<MemoryStore>,
-) -> Vec<Over>
+    found: &mut Vec<Over>,
+)
     requires ready { All (λ client. IsReady (length primary.old.log) client) sessions.old.clients.all }
+    ensures ready { All (λ client. IsReady (length primary.new.log) client) sessions.new.clients.all }
 {
-    let mut found = Vec::new(alloc);
-    for _ in 0..rounds {
-        sessions.wait().expect(rt, "a round");
-        sessions
-            .serve(primary, &mut InlineCrew)
-            .expect(rt, "a turn");
-        while let Some(over) = sessions.next_over() {
-            sessions.leave(over);
-            found.push(over).expect(rt, "memory");
-        }
+    sessions.wait().expect(rt, "a round");
+    sessions
+        .serve(primary, &mut InlineCrew)
+        .expect(rt, "a turn");
+    leave_next(rt, sessions, found);
+    leave_next(rt, sessions, found);
+    expect(rt, sessions.next_over().is_none(), "two places");
+}
+
+// Leaves a client whose session is over, if there is one.
+fn leave_next(rt: &impl Abort, sessions: &mut Sessions<Wires<'_>>, found: &mut Vec<Over>)
+    ensures { sessions.new.clients ≡ sessions.old.clients }
+{
+    if let Some(over) = sessions.next_over() {
+        sessions.leave(over);
+        found.push(over).expect(rt, "memory");
     }
-    found
 }
 
 fn expect_case(rt: &impl Abort, alloc: Global, case: &Case) {
@@ -153,12 +166,17 @@ fn expect_case(rt: &impl Abort, alloc: Global, case: &Case) {
     }
     let wires = Wires {
         rounds: case.rounds,
-        now: QUIET,
+        begun: 0,
+        came: 0,
+        taken: 0,
         sent,
         left: Vec::new(alloc),
     };
     let mut sessions = Sessions::open(alloc, wires, PLACES).expect(rt, "memory for sessions");
-    let over = serve_rounds(rt, alloc, case.rounds.len(), &mut sessions, &mut primary);
+    let mut over = Vec::new(alloc);
+    serve_round(rt, &mut sessions, &mut primary, &mut over);
+    serve_round(rt, &mut sessions, &mut primary, &mut over);
+    serve_round(rt, &mut sessions, &mut primary, &mut over);
     let wires = sessions.connections();
     assert!(rt; over.as_slice() == case.over, "{over:?}");
     for (bytes, wanted) in wires.sent.iter().zip(case.sent) {
