@@ -138,6 +138,38 @@ fn words_of_a_server(rt: HostRuntime) {
 }
 
 #[test]
+fn words_of_a_server_of_many_clients(rt: HostRuntime) {
+    let endless = Plan {
+        sessions: usize::MAX,
+        clients: Some(1_000),
+        ..SERVED_AS_USUAL
+    };
+    let counted = Plan {
+        sessions: 2_000,
+        clients: Some(1),
+        ..SERVED_AS_USUAL
+    };
+    for (words, plan) in [
+        (
+            ["serve", "--clients", "1000", "--port=0", "--nodes=1"],
+            endless,
+        ),
+        (
+            ["serve", "--port", "0", "--sessions=2000", "--clients=1"],
+            counted,
+        ),
+    ] {
+        let read = Words::Serve {
+            port: 0,
+            plan,
+            store: None,
+            log: None,
+        };
+        expect(&rt, rt.alloc(), &words, read);
+    }
+}
+
+#[test]
 fn words_of_a_server_with_a_log(rt: HostRuntime) {
     let alloc = rt.alloc();
     let endless = Plan {
@@ -199,7 +231,7 @@ fn expect_refused(rt: &impl Abort, alloc: Global, cases: &[(&[&str], &str)]) {
 
 #[test]
 fn refused_words_of_a_server(rt: HostRuntime) {
-    let cases: [(&[&str], &str); 12] = [
+    let cases: [(&[&str], &str); 14] = [
         (&["serve", "--port", "65536"], "65536 is not in 0..=65535"),
         (&["serve", "--port", "http"], "<0..65535>"),
         (
@@ -208,7 +240,15 @@ fn refused_words_of_a_server(rt: HostRuntime) {
         ),
         (
             &["serve", "--sessions", "1001", "--port=1"],
-            "1 to 1000 sessions without a log",
+            "1 to 1000 sessions without these or a log",
+        ),
+        (
+            &["serve", "--clients=0", "--port=1"],
+            "0 is not in 1..=1000",
+        ),
+        (
+            &["serve", "--clients", "1001", "--port=1"],
+            "1001 is not in 1..=1000",
         ),
         (
             &["serve", "--nodes", "17", "--port=1"],

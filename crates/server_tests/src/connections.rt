@@ -14,8 +14,8 @@ use std::alloc::Global;
 use std::io;
 use std::process::Abort;
 
-// What there is before a turn: the places of those who come, what arrives and at which place, how many
-// bytes each connection takes at once, and which of them fail.
+// What there is before a turn: the places of those who come, at most two pieces that arrive, each at its
+// place, how many bytes each connection takes at once, and which of them fail.
 #[derive(Clone, Copy)]
 struct Round<'a> {
     guests: &'a [usize],
@@ -238,7 +238,11 @@ const CASES: &[Case<'static>] = &[
             },
             Round {
                 guests: &[1],
-                pieces: &[(1, Some(OTHER)), (1, Some(FLUSH)), (1, Some(b""))],
+                pieces: &[(1, Some(OTHER)), (1, Some(FLUSH))],
+                ..QUIET
+            },
+            Round {
+                pieces: &[(1, Some(b""))],
                 ..QUIET
             },
         ],
@@ -260,11 +264,15 @@ const CASES: &[Case<'static>] = &[
         rounds: &[
             Round {
                 guests: &[0],
-                pieces: &[(0, Some(DEPOSIT)), (0, Some(FLUSH)), (0, Some(b""))],
+                pieces: &[(0, Some(DEPOSIT)), (0, Some(FLUSH))],
                 takes: 0,
                 broken: &[],
             },
-            Round { takes: 0, ..QUIET },
+            Round {
+                pieces: &[(0, Some(b""))],
+                takes: 0,
+                ..QUIET
+            },
             Round {
                 takes: 0,
                 broken: &[0],
