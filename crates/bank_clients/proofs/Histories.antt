@@ -180,7 +180,8 @@ round_goes_on opening a b c d e log log_c old joined turned told new joins same 
 
 -- ---- before the first
 
-fresh_at : (clients : List ClientOf) → All (λ c. c ≡ fresh_client) clients → (i : ℕ) (client : ClientOf) → slice_get clients i ≡ Some client → client ≡ fresh_client
+fresh_at : (clients : List ClientOf) → All (λ c. c ≡ fresh_client) clients → (i : ℕ) (client : ClientOf) → slice_get clients i ≡ Some client
+    → client ≡ fresh_client
 fresh_at clients fresh i client is =
     subst (λ (c : ClientOf). c ≡ fresh_client) (get_or_from_slice_get clients i client client is) (fresh i client (slice_get_within clients i client is))
 

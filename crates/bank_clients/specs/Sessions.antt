@@ -11,7 +11,8 @@ pub record SessionsOf (A : Type 0) : Type 0 where
   pub leaving : List ℕ
 
 -- what is known of these connections, by what says so
-abbrev pub outside_of : {A : Type 0} → (A → Option (List (ℕ × Piece))) → (A → Option (List (ℕ × List ℕ))) → A → OutsideOf
+abbrev pub outside_of : {A : Type 0} → (A → Option (List (ℕ × Piece))) → (A → Option (List (ℕ × List ℕ))) → A
+    → OutsideOf
 outside_of coming sent connections = record { coming = coming connections; sent = sent connections }
 
 -- how a session is over whose client ended so, with these outcomes left that its connection doesn't take

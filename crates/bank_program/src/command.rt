@@ -113,7 +113,7 @@ fn port<'a>(alloc: Global) -> Arg<'a> {
 
 fn sessions<'a>(alloc: Global) -> Arg<'a> {
     number(alloc, "sessions", "1..1000", 1, i64::MAX).help(
-        "How many sessions there are before the program ends: without --log and --clients 1 to 1000, and 1 if not given",
+        "How many sessions there are before the program ends: 1 to 1000 or else 1, but for --log and --clients",
     )
 }
 

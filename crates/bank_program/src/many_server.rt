@@ -61,7 +61,8 @@ where
 
     ghost ready = { λ server. HasNoneOut server.primary.node.board
         × All (λ client. IsReady (length server.primary.log) client) server.sessions.clients.all
-        × ((h : HistoryOf) × ServesEach (opening_rows_of server.primary) h server.primary.log server.sessions.clients.all) };
+        × ((h : HistoryOf)
+        × ServesEach (opening_rows_of server.primary) h server.primary.log server.sessions.clients.all) };
 
     ghost does = { λ server nodes workers keeps answer. IfOk answer (λ bank. ServesAtOnce S.model K.Keeps K.opening
         server.plan server.port
