@@ -1,3 +1,4 @@
+pub mod ClientErrors
 pub mod History
 pub mod Sessions
 pub mod inner

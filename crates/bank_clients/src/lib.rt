@@ -2,6 +2,7 @@
 //! and who leaves.
 #![tactic(auto)]
 
+mod client_errors;
 mod connections;
 mod delivery;
 mod laws;
@@ -11,6 +12,7 @@ mod slot;
 mod socket_places;
 mod sockets;
 
+pub use client_errors::is_of_a_client;
 pub use connections::Connections;
 pub use laws::begins_served;
 pub use sessions::{Over, Sessions};

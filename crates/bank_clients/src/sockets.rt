@@ -1,6 +1,7 @@
 //! The sockets of clients, which one thread polls.
 ghost use Rattle.std.specs.Prelude.{◌≤◌, length, None};
 
+use crate::client_errors::is_of_a_client;
 use crate::connections::Connections;
 use crate::slot::Slot;
 use crate::socket_places::{Sign, SocketPlaces, earlier, has_come};
@@ -227,19 +228,4 @@ impl<'a, H: Clock> Connections for ClientSockets<'a, H> {
     fn leave(&mut self, place: usize, is_at_fault: bool) {
         self.places.leave(place, is_at_fault, self.now);
     }
-}
-
-// Whether an error says only that the client or the way to it is gone, and nothing of the device.
-// Linux reports such errors as it accepts a client.
-fn is_of_a_client(kind: ErrorKind) -> bool {
-    matches!(
-        kind,
-        ErrorKind::ConnectionAborted
-            | ErrorKind::ConnectionReset
-            | ErrorKind::HostUnreachable
-            | ErrorKind::NetworkUnreachable
-            | ErrorKind::NetworkDown
-            | ErrorKind::TimedOut
-            | ErrorKind::Interrupted
-    )
 }

@@ -156,7 +156,7 @@ pub matches_not : (content input new text : List ℕ) (asks : List (Key × Call)
     → content ≡ new ++ rest → text ≢ [] → IsMatchFault text input fault → IsFindFault content input fault new
 matches_not content input new text asks rest (Run (run.Input line fault)) read left some is =
     absurd (no_line_fault text line fault (log_opening read.bodies text asks read.are some) is)
-matches_not content input new text asks rest (Run (run.Strayed node)) read left some is = absurd is
+matches_not content input new text asks rest (Run (run.Strayed node reason)) read left some is = absurd is
 matches_not content input new text asks rest (Run run.CrewGone) read left some is = absurd is
 matches_not content input new text asks rest (Run run.Device) read left some is = absurd is
 matches_not content input new text asks rest (Run run.OutOfMemory) read left some is =

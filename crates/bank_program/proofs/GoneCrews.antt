@@ -12,7 +12,7 @@ use Rattle.bank_program.specs.declared.serve_fault.ServeFault.TheVariants.{Run, 
 -- a crew that may be gone may be gone for another reason too
 pub run_fault_if : {A B : Type 0} (fault : RunFault) → (A → B) → IsFinishRunFault A fault → IsFinishRunFault B fault
 run_fault_if (Input line fault) f is = is
-run_fault_if (Strayed node) f is = is
+run_fault_if (Strayed node reason) f is = is
 run_fault_if CrewGone f is = f is
 run_fault_if Device f is = is
 run_fault_if OutOfMemory f is = is

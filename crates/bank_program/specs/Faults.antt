@@ -14,7 +14,7 @@ use Rattle.bank_program.specs.declared.serve_fault.ServeFault.TheVariants as ser
 -- 1 for an input that is refused, 3 for every other fault
 abbrev pub run_status : RunFault → ℕ
 run_status (Input line fault) = 1
-run_status (Strayed node) = 3
+run_status (Strayed node reason) = 3
 run_status CrewGone = 3
 run_status Device = 3
 run_status OutOfMemory = 3

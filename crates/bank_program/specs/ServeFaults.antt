@@ -21,7 +21,7 @@ IsPortFault port other = ⊥
 -- a device failed, memory was refused, or the crew is gone, as it may be
 abbrev pub IsFinishRunFault : Type 0 → RunFault → Type 0
 IsFinishRunFault MayBeGone (Input line fault) = ⊥
-IsFinishRunFault MayBeGone (Strayed node) = ⊥
+IsFinishRunFault MayBeGone (Strayed node reason) = ⊥
 IsFinishRunFault MayBeGone CrewGone = MayBeGone
 IsFinishRunFault MayBeGone other = Unit {0}
 
@@ -35,7 +35,7 @@ IsFinishFault MayBeGone saves fails other = ⊥
 
 -- the same, or a follower among this many nodes strayed
 abbrev pub IsServingRunFault : ℕ → Type 0 → RunFault → Type 0
-IsServingRunFault nodes MayBeGone (Strayed node) = IsFollower nodes node
+IsServingRunFault nodes MayBeGone (Strayed node reason) = IsFollower nodes node
 IsServingRunFault nodes MayBeGone other = IsFinishRunFault MayBeGone other
 
 -- serving a bank of this many nodes, whose crew may be gone, which saves or doesn't, and whose log's
@@ -45,19 +45,19 @@ IsServingFault nodes MayBeGone saves fails (Run fault) = IsServingRunFault nodes
 IsServingFault nodes MayBeGone saves fails other = IsFinishFault MayBeGone saves fails other
 
 -- what may end the program that serves by this plan: what may end serving the bank, or a line of the
--- opening is at fault, or there is a store, and it takes nothing, or this port is taken, or there is a
--- log, and it has another opening
-abbrev pub IsProgramFault : ℕ → Plan → Bool → Bool → ServeFault → Type 0
-IsProgramFault port plan stores logs (Run fault) = StraysAmong plan.nodes fault × LosesWorkers plan.workers fault
-IsProgramFault port plan stores logs ReadBack = plan.saves ≡ true
-IsProgramFault port plan stores logs Store = stores ≡ true
-IsProgramFault port plan stores logs (PortTaken taken) = taken ≡ port
-IsProgramFault port plan stores logs (Log fault) = logs ≡ true
-IsProgramFault port plan stores logs AnotherOpening = logs ≡ true
+-- opening is at fault, or the bank saves, and its store takes nothing, or this port is taken, or there is
+-- a log, and it has another opening
+abbrev pub IsProgramFault : ℕ → Plan → Bool → ServeFault → Type 0
+IsProgramFault port plan logs (Run fault) = StraysAmong plan.nodes fault × LosesWorkers plan.workers fault
+IsProgramFault port plan logs ReadBack = plan.saves ≡ true
+IsProgramFault port plan logs Store = plan.saves ≡ true
+IsProgramFault port plan logs (PortTaken taken) = taken ≡ port
+IsProgramFault port plan logs (Log fault) = logs ≡ true
+IsProgramFault port plan logs AnotherOpening = logs ≡ true
 
 -- a line of the opening is at fault, a device failed, or memory was refused
 abbrev pub IsOpeningRunFault : RunFault → Type 0
-IsOpeningRunFault (Strayed node) = ⊥
+IsOpeningRunFault (Strayed node reason) = ⊥
 IsOpeningRunFault CrewGone = ⊥
 IsOpeningRunFault other = Unit {0}
 

@@ -1,5 +1,5 @@
 -- The program's words; the first is its name.
-use Rattle.std.specs.Prelude.{◌≡◌, ◌≤◌, ◌⊎◌, ◌-◌, ◌^◌, ◌||◌, if◌then◌else◌, Bool, false, ℕ, Option, Some, None, List, [], ◌∷◌, ◌++◌, String, codes, map, string_bytes, is_some, IfSome}
+use Rattle.std.specs.Prelude.{◌≡◌, ◌≤◌, ◌⊎◌, ◌-◌, ◌^◌, ◌||◌, if◌then◌else◌, Bool, true, false, ℕ, Option, Some, None, List, [], ◌∷◌, ◌++◌, String, codes, map, string_bytes, is_some, IfSome}
 use Rattle.std.specs.Borrow.{Bor}
 use Rattle.std.specs.Str.Parse.{IsNumeral, digits_value, without_leading_plus}
 use Rattle.clap.specs.declared.error.kind.ErrorKind.{ErrorKind}
@@ -49,12 +49,11 @@ IsPlanInRange logs plan = (1 ≤ plan.sessions)
     × (plan.workers ≤ WORKERS) × IfSome plan.patience (λ seconds. (1 ≤ seconds) × (seconds ≤ 86400))
 
 -- a run has 1 to REPLICAS nodes and 0 to WORKERS workers; a port is below 2^16; a served bank has a
--- plan in range, and saves exactly if it has a store
+-- plan in range
 abbrev pub InRange : Words → Type 0
 InRange (Run nodes workers) = (1 ≤ nodes) × (nodes ≤ REPLICAS) × (workers ≤ WORKERS)
 InRange Play = Unit {0}
-InRange (Serve port plan store log) =
-    (port ≤ 65535) × IsPlanInRange (is_some log) plan × (plan.saves ≡ is_some store)
+InRange (Serve port plan store log) = (port ≤ 65535) × IsPlanInRange (is_some log) plan
 InRange (Log folder action) = Unit {0}
 
 -- the words are wrong, or memory was refused
@@ -86,6 +85,11 @@ MayHaveInteger option (Some number) words = HasInteger option number words
 abbrev pub MayHaveText : List ℕ → Option (Bor (List ℕ)) → List (List ℕ) → Type 0
 MayHaveText option None words = (text : List ℕ) → ¬ (HasValue option text words)
 MayHaveText option (Some text) words = HasValue option text.now words
+
+-- a bank that saves keeps its checkpoint in the store's folder, and one that doesn't is given none
+abbrev pub GivesStore : Bool → List ℕ → List (List ℕ) → Type 0
+GivesStore true folder words = HasValue (codes "--store") folder words
+GivesStore false folder words = (text : List ℕ) → ¬ (HasValue (codes "--store") text words)
 
 -- an option has this number, or this is the default and the option has no value
 abbrev pub HasIntegerOrDefault : List ℕ → ℕ → ℕ → List (List ℕ) → Type 0
@@ -120,10 +124,10 @@ module _ {A : Type 0} where
       × GivesCounts plan.nodes plan.workers words
       × MayHaveInteger (codes "--patience") plan.patience (map string_bytes words)
 
-  -- the words give this port, this plan and these folders, if any
-  abbrev pub GivesServe : ℕ → Plan → Option (Bor (List ℕ)) → Option (Bor (List ℕ)) → List (String A) → Type 0
+  -- the words give this port, this plan with its store's folder, and this log's folder, if any
+  abbrev pub GivesServe : ℕ → Plan → Bor (List ℕ) → Option (Bor (List ℕ)) → List (String A) → Type 0
   GivesServe port plan store log words = HasInteger (codes "--port") port (map string_bytes words)
-      × GivesPlan (is_some log) plan words × MayHaveText (codes "--store") store (map string_bytes words)
+      × GivesPlan (is_some log) plan words × GivesStore plan.saves store.now (map string_bytes words)
       × MayHaveText (codes "--log") log (map string_bytes words)
 
   -- the words after `run` or `serve` give these values

@@ -17,7 +17,33 @@ const EXAMPLE: &str = "Example:
 prints
   1 done
   alice 100.00 51.00
-  total 151.00";
+  total 151.00
+
+Exit status: 0 when done, 1 if the input is refused (`smallbank: line L: FAULT`; nothing is written
+then), 2 if the words are, and 3 for all else. docs/FORMATS.md has the whole format.";
+
+const PLAY: &str = "Plays a schedule of events from standard input, without threads.
+
+Reads a line `nodes N workers W`, each 1 to 16, an opening, as `run` does, and an event a line. R, A
+and B are replicas, from 0, W is a worker, and K the position of what was sent, both from 1.
+  ask C R CALL, append C R CALL, sync, crash K   requests, and the log's disk
+  send R N, resend R, to R K, next R             entries on their way to a replica
+  ack R, have R, answer R N, from R K            what a replica sends back
+  take R W I, finish R W                         a worker's job
+  cut R, mark R HOW, restart R                   checkpoints; HOW is ok, old or new
+  donor R, give A R, adopt R K, audit A B        states of others, and a comparison
+Writes a note for each event, and then the length, the rows and the total of each replica.";
+
+const PLAY_EXAMPLE: &str = "Example:
+  printf 'nodes 1 workers 1\nann 1.00 0.00\nbegin\nask 7 1 balance ann\nsend 0 1\nto 0 1\n' | smallbank play
+prints
+  new 1
+  sent 1
+  accepted 1
+  replica 0 length 1 busy
+
+Exit status: 0 when done, 1 if the input is refused (`smallbank: line L: FAULT`; nothing is written
+then), 2 if the words are, and 3 for all else. docs/FORMATS.md has the notes.";
 
 const SERVE: &str =
     "Serves clients over TCP, on this machine alone: one after the other, or with --clients N up to N at once.
@@ -38,7 +64,11 @@ prints, once a client has deposited 1.00 for alice
   listening 127.0.0.1:4000
   session 1 ok
   alice 100.00 51.00
-  total 151.00";
+  total 151.00
+
+Exit status: 0 when done, 1 if the opening is refused (`smallbank: line L: FAULT`; nothing is served
+then), 2 if the words are, and 3 for all else. docs/OPERATING.md says what each line means, and
+docs/WIRE.md what clients send.";
 
 const LOG: &str = "Lists the log that a server keeps in FOLDER/log.
 
@@ -46,6 +76,10 @@ Prints the opening, `begin`, and a line `ask CLIENT REQUEST CALL` for each ask, 
 `run`. The file isn't locked, and stays as it is; a record at its end that isn't whole is left out.
 After damage, of which nothing is printed but the byte, `--cut` is a way on: it moves what follows the
 last whole record to FOLDER/log.rest, unless that is there, and prints the line of the log that is left.";
+
+const LOG_STATUS: &str =
+    "Exit status: 0 when done, 1 without a log or after damage (`smallbank: log: FAULT`), 2 if the
+words are refused, and 3 for all else. docs/OPERATING.md says what to do after damage.";
 
 /// The command whose grammar the program's words follow.
 pub(crate) fn command<'a>(alloc: Global) -> Result<Command<'a>, AllocError> {
@@ -70,7 +104,10 @@ fn run<'a>(alloc: Global) -> Result<Command<'a>, AllocError> {
 
 // The subcommand that plays a schedule.
 fn play<'a>(alloc: Global) -> Command<'a> {
-    Command::new(alloc, "play").about("Plays a schedule from standard input")
+    Command::new(alloc, "play")
+        .about("Plays a schedule from standard input")
+        .long_about(PLAY)
+        .after_help(PLAY_EXAMPLE)
 }
 
 // The subcommand that serves.
@@ -151,6 +188,7 @@ fn log<'a>(alloc: Global) -> Result<Command<'a>, AllocError> {
     Command::new(alloc, "log")
         .about("Lists a log, or cuts off what follows its last whole record")
         .long_about(LOG)
+        .after_help(LOG_STATUS)
         .arg(folder)?
         .args(Vec::from_array(alloc, flags)?)
 }

@@ -5,8 +5,9 @@ ghost use Rattle.bank_program.specs.Sessions.{AcceptsNext, ListenerClients, Leav
 
 use crate::client_stream::ClientStream;
 use crate::socket_writer::SocketWriter;
+use bank_clients::is_of_a_client;
 use std::io;
-use std::io::{ErrorKind, Read, Write};
+use std::io::{Read, Write};
 use std::net::{OpenListener, OpenStream};
 use std::sync::Wait;
 
@@ -108,19 +109,4 @@ fn with_second_handle<T: OpenStream>(stream: T) -> ClientStream<T, SocketWriter<
         reader: stream,
         writer,
     }
-}
-
-// Whether an error says only that the client or the way to it is gone, and nothing of the device.
-// Linux reports such errors as it accepts a client.
-fn is_of_a_client(kind: ErrorKind) -> bool {
-    matches!(
-        kind,
-        ErrorKind::ConnectionAborted
-            | ErrorKind::ConnectionReset
-            | ErrorKind::HostUnreachable
-            | ErrorKind::NetworkUnreachable
-            | ErrorKind::NetworkDown
-            | ErrorKind::TimedOut
-            | ErrorKind::Interrupted
-    )
 }

@@ -37,9 +37,9 @@ type SystemBank<'a> = Primary<FileStore<FolderFile<HostRuntime>>, AskLog<SystemF
 // The file name of node 0's checkpoint.
 const CHECKPOINT: &str = "node0.ckpt";
 
-/// Serves the bank of the opening in standard input at a port. Node 0 keeps its checkpoint in the first
-/// folder, if there is one. The log is kept in the second one, if there is one: then standard input may
-/// be empty where the log goes on. A fault of the log's file is told on standard error.
+/// Serves the bank of the opening in standard input at a port. If the plan saves, node 0 keeps its
+/// checkpoint in the first folder. The log is kept in the second one, if there is one: then standard input
+/// may be empty where the log goes on. A fault of the log's file is told on standard error.
 ///
 /// The server listens only after the whole input was read and checked, the log's folder read, and the
 /// store's folder tried.
@@ -47,7 +47,7 @@ pub fn serve_program<H>(
     rt: &HostRuntime,
     threads: &H,
     port: u16,
-    folder: Option<&str>,
+    folder: &str,
     log: Option<&str>,
     plan: Plan,
 ) -> Result<(), ServeFault>
@@ -55,16 +55,13 @@ where
     H: Threads + Wait + Clock + Sync + Net,
     requires nodes { plan.nodes ≤ REPLICAS }
     requires workers { plan.workers ≤ WORKERS }
-    ensures fault { IfErr result (IsProgramFault port plan (is_some folder.entry) (is_some log.entry)) }
+    ensures fault { IfErr result (IsProgramFault port plan (is_some log.entry)) }
 {
-    // Without a folder nothing is saved.
-    let mut plan = plan;
-    plan.saves = plan.saves && folder.is_some();
     if let Some(log) = log {
         return serve_with_log(rt, threads, port, folder, log, plan);
     }
     let opening = read_opening(rt)?;
-    let store = store_of(rt, folder)?;
+    let store = store_of(rt, folder, plan.saves)?;
     serve_at(rt, threads, port, opening, store, plan)
 }
 
@@ -73,7 +70,7 @@ fn serve_with_log<H>(
     rt: &HostRuntime,
     threads: &H,
     port: u16,
-    folder: Option<&str>,
+    folder: &str,
     log: &str,
     plan: Plan,
 ) -> Result<(), ServeFault>
@@ -81,10 +78,10 @@ where
     H: Threads + Wait + Clock + Sync + Net,
     requires nodes { plan.nodes ≤ REPLICAS }
     requires workers { plan.workers ≤ WORKERS }
-    ensures fault { IfErr result (IsProgramFault port plan (is_some folder.entry) true) }
+    ensures fault { IfErr result (IsProgramFault port plan true) }
 {
     let reason = Reason::new();
-    let served = match open_on_log(rt, folder, log, &reason) {
+    let served = match open_on_log(rt, folder, plan.saves, log, &reason) {
         Ok(opened) => serve_opened(rt, threads, port, opened, plan),
         Err(fault) => Err(fault),
     };
@@ -104,12 +101,13 @@ where
 // Opens a bank on the log in this folder.
 fn open_on_log<'a>(
     rt: &HostRuntime,
-    folder: Option<&str>,
+    folder: &str,
+    saves: bool,
     log: &str,
     reason: &'a Reason,
 ) -> Result<Box<SystemBank<'a>>, ServeFault>
     ensures no_entries { IfOk result (λ opened. HasNoEntries opened.value.node.board) }
-    ensures fault { IfErr result (IsOpenFault (is_some folder.entry)) }
+    ensures fault { IfErr result (IsOpenFault saves) }
 {
     let alloc = rt.alloc();
     if !are_open(rt) {
@@ -117,7 +115,7 @@ fn open_on_log<'a>(
     }
     let mut file = SystemFile::open(rt, log, LOG, reason)?;
     let input = read_all(alloc, &mut rt.stdin())?;
-    let store = store_of(rt, folder)?;
+    let store = store_of(rt, folder, saves)?;
     let found = find_bank(alloc, &mut file, &input)?;
     if found.cut > 0 {
         let report = CutReport { bytes: found.cut };
@@ -140,7 +138,7 @@ where
     requires nodes { plan.nodes ≤ REPLICAS }
     requires workers { plan.workers ≤ WORKERS }
     requires no_entries { HasNoEntries opened.value.node.board }
-    ensures fault { IfErr result (IsProgramFault port plan false true) }
+    ensures fault { IfErr result (IsProgramFault port plan true) }
 {
     if let Some(clients) = plan.clients {
         return serve_clients_at(rt, threads, port, opened, clients, plan);
@@ -169,16 +167,17 @@ fn read_opening(rt: &HostRuntime) -> Result<Box<Opening>, ServeFault>
     Ok(Box::new(alloc, opening)?)
 }
 
-// A store in this folder, which can be written. Without a folder it is one that is never used, so
-// that a bank is always served over one type of store.
+// A store in this folder, which can be written. One of a bank that saves nothing isn't tried: it is
+// never used, but a bank is always served over one type of store.
 fn store_of(
     rt: &HostRuntime,
-    folder: Option<&str>,
+    folder: &str,
+    saves: bool,
 ) -> Result<FileStore<FolderFile<HostRuntime>>, ServeFault>
-    ensures fault { IfErr result (IsStoreFault (is_some folder.entry)) }
+    ensures fault { IfErr result (IsStoreFault saves) }
 {
-    let file = FolderFile::new(rt.alloc(), *rt, folder.unwrap_or("."), CHECKPOINT)?;
-    if folder.is_none() {
+    let file = FolderFile::new(rt.alloc(), *rt, folder, CHECKPOINT)?;
+    if !saves {
         return Ok(FileStore::new(file));
     }
     store_in(file)
@@ -212,7 +211,7 @@ where
     S: CheckpointStore,
     requires nodes { plan.nodes ≤ REPLICAS }
     requires workers { plan.workers ≤ WORKERS }
-    ensures fault { IfErr result (IsProgramFault port plan false false) }
+    ensures fault { IfErr result (IsProgramFault port plan false) }
 {
     if let Some(clients) = plan.clients {
         let primary = boxed_primary(rt.alloc(), opening, store)?;

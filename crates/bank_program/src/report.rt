@@ -12,7 +12,8 @@ use sb_log::LogFault;
 use schedule_player::ScheduleFault;
 use std::fmt;
 
-/// How a fault ends the program: its exit status, and its text by `Display`.
+/// How a fault ends the program: its exit status, and its text by `Display`. Of a follower that
+/// strayed a second line says why.
 #[derive(Clone, Copy, Debug, PartialEq, Eq)]
 pub struct Report {
     /// 1 for an input that is refused, 3 for every other fault.
@@ -61,13 +62,20 @@ fn run_status(fault: RunFault) -> u8
 {
     match fault {
         RunFault::Input { .. } => 1,
-        RunFault::Strayed(_) | RunFault::CrewGone | RunFault::Device | RunFault::OutOfMemory => 3,
+        RunFault::Strayed(..) | RunFault::CrewGone | RunFault::Device | RunFault::OutOfMemory => 3,
     }
 }
 
 impl fmt::Display for Report {
     fn fmt<W: fmt::Write>(&self, f: &mut fmt::Formatter<W>) -> fmt::Result {
         let fault = self.fault;
-        write!(f, "smallbank: {fault}")
+        write!(f, "smallbank: {fault}")?;
+        match fault {
+            ProgramFault::Run(RunFault::Strayed(node, reason))
+            | ProgramFault::Serve(ServeFault::Run(RunFault::Strayed(node, reason))) => {
+                write!(f, "\nsmallbank: node {node}: {reason}")
+            }
+            _ => Ok(()),
+        }
     }
 }

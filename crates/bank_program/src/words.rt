@@ -1,7 +1,7 @@
 //! The program's words.
-ghost use Rattle.std.specs.Prelude.{◌≡◌, IfErr, IfOk, IfSome, true, string_bytes};
+ghost use Rattle.std.specs.Prelude.{◌≡◌, IfErr, IfOk, IfSome, true, map, string_bytes};
 ghost use Rattle.clap.specs.Values.{kind_of};
-ghost use Rattle.bank_program.specs.Words.{InRange, IsFlagOf, IsPlanInRange, IsRefusal, NamesProgram, GivesValues, may_be_endless, usual_sessions};
+ghost use Rattle.bank_program.specs.Words.{GivesStore, InRange, IsFlagOf, IsPlanInRange, IsRefusal, NamesProgram, GivesValues, may_be_endless, usual_sessions};
 ghost use Rattle.bank_program.specs.inner.WordValues.{SaysLog};
 ghost use Rattle.bank_program.specs.inner.WordValues.{IsLogWordsOf, IsPlanOf, IsReadOf, IsRunOf, IsServeOf};
 
@@ -38,10 +38,10 @@ pub enum Words<'a> {
     Serve {
         /// The port where the server listens; 0 is any free one.
         port: u16,
-        /// How the bank is served: it saves exactly if there is a store.
+        /// How the bank is served.
         plan: Plan,
-        /// The folder where node 0 keeps its checkpoint, if it keeps one.
-        store: Option<&'a str>,
+        /// The folder where node 0 keeps its checkpoint, if the plan saves. Else nothing is there.
+        store: &'a str,
         /// The folder where the log is kept, if it is.
         log: Option<&'a str>,
     },
@@ -168,14 +168,25 @@ fn serve<'a>(options: &'a [String]) -> Option<Words<'a>>
     let Ok(port) = u16::try_from(parse_number(options, "--port")?) else {
         return None;
     };
-    let (store, log) = (value(options, "--store"), value(options, "--log"));
-    let plan = plan_of(options, store.is_some(), log.is_some())?;
+    let (saves, store) = store_of(options);
+    let log = value(options, "--log");
+    let plan = plan_of(options, saves, log.is_some())?;
     Some(Words::Serve {
         port,
         plan,
         store,
         log,
     })
+}
+
+// Whether the bank saves, and its store's folder.
+fn store_of<'a>(options: &'a [String]) -> (bool, &'a str)
+    ensures { GivesStore result.0 result.1.now (map string_bytes options.entry.now) }
+{
+    match value(options, "--store") {
+        Some(folder) => (true, folder),
+        None => (false, "."),
+    }
 }
 
 // What is done with a log, by the words after `log`: its folder, and a flag before or behind it, or

@@ -1,12 +1,14 @@
--- How a client who is served beside others goes from state to state.
-use Rattle.std.proofs.Common.{◌≡◌, ℕ, true, false, Result, Ok, Err, List, [], ◌∷◌, ◌++◌, length, map, refl, sym, ap, subst, ◌∙◌, append_assoc, append-nil}
+-- How a client goes from state to state.
+use Rattle.std.proofs.Common.{arith, ◌≡◌, ℕ, ◌+◌, true, false, Result, Ok, Err, List, [], ◌∷◌, ◌++◌, drop, length, map, take, refl, sym, ap, subst, ◌∙◌, append_assoc, append-nil}
 use Rattle.std.specs.Prelude.{◌≢◌}
 use Rattle.std.specs.Result.{is_err}
-use Rattle.std.specs.List.{All, Contains, flat_map}
+use Rattle.std.specs.List.{All, Contains, drop-map, flat_map, take-map}
+use Rattle.std.proofs.Math.Seq.{drop-append_seam, take-append_seam}
 use Rattle.std.proofs.lemmas.Grind.{flat_map-append}
-use Rattle.std.proofs.lemmas.List.{length-map}
+use Rattle.std.proofs.lemmas.List.{length-append, length-map}
 use Rattle.std.proofs.lemmas.List.Elements.{All-append, All-contains_itself, All-push, All-weaker, Contains-append_right}
 use Rattle.sb_rows.specs.Rows.{Rows}
+use Rattle.sb_calls.specs.Log.{replies_to}
 use Rattle.sb_calls.specs.declared.ask.Key.{Key}
 use Rattle.sb_calls.specs.declared.call.Call.{Call}
 use Rattle.sb_frames.specs.Decoding.{decode_result}
@@ -17,11 +19,11 @@ use Rattle.sb_frames.specs.declared.fault.FrameFault.{FrameFault}
 use Rattle.sb_frames.specs.declared.fault.FrameFault.TheVariants.{Short}
 use Rattle.sb_frames.specs.declared.frame.Frame.{Frame}
 use Rattle.sb_frames.specs.declared.frame.Frame.TheVariants.{Ask, Flush}
-use Rattle.sb_sequencer.specs.Numbering.{first_asks}
+use Rattle.sb_sequencer.specs.Numbering.{calls_of, first_asks}
 use Rattle.bank_server.specs.inner.AskSteps.{AddsAsk}
-use Rattle.bank_server.specs.inner.ClientSteps.{ClientState, HandlesClient, LeadsClient, ReachesClient, RefusesClientFrame, StopsClient}
+use Rattle.bank_server.specs.inner.ClientSteps.{ClientState, HandlesClient, IsFrameRefusal, LeadsClient, ReachesClient, RefusesClientFrame, StopsClient, TellsDue}
 use Rattle.bank_server.specs.Pending.{pending_ask, unflushed_asks}
-use Rattle.bank_server.specs.Session.{IsFromClient, ask_of_frame, asks_in, outcome_of}
+use Rattle.bank_server.specs.Session.{IsFromClient, ask_of_frame, asks_in, outcome_by, outcome_of}
 use Rattle.bank_server.specs.declared.asking.Standing.{Standing}
 use Rattle.bank_server.specs.declared.pending.PendingAsk.{PendingAsk}
 use Rattle.bank_server.specs.declared.session_fault.SessionFault.{SessionFault}
@@ -29,7 +31,6 @@ use Rattle.bank_server.specs.declared.session_fault.SessionFault.TheVariants as 
 use Rattle.bank_server.specs.declared.session_fault.SessionFault.TheVariants.{Unexpected, CrewGone, Device, OutOfMemory, Log, TooMany}
 use Rattle.bank_server.proofs.FrameSteps.{bad_at}
 use Rattle.bank_server.proofs.ClientAsks.{All-behind, All-front, outcomes_kept, pending_kept, still_among}
-use Rattle.bank_server.proofs.SessionSteps.{map-push}
 use Rattle.bank_server.proofs.Flushes.{all_asks, asks_push, told_all, told_same, untold_more, untold_none}
 
 -- ---- the asks of others
@@ -88,6 +89,10 @@ leads_on_client opening old mid new xs ys first second asks sent frames came =
     (second (asks ++ asks_in xs) sent (frames ++ xs) (first asks sent frames came)))
 
 -- ---- an ask
+
+map-push : {A B : Type 0} (f : A → B) (xs : List A) (x : A) → map f (xs ++ x ∷ []) ≡ map f xs ++ f x ∷ []
+map-push f [] x = refl
+map-push f (y ∷ xs) x = ap (λ l. f y ∷ l) (map-push f xs x)
 
 pub ask_leads_client : (opening : Rows) (old new : ClientState) (key : Key) (call : Call) (standing : Standing)
     → ((asks : List (Key × Call)) → old.log ≡ first_asks asks → AddsAsk asks (key, call) new.log standing)
@@ -172,49 +177,89 @@ handles_frame opening old mid new unread left behind frame bytes heard spells is
       leads = leads_on_client opening old mid new heard.more (frame ∷ []) heard.leads leads;
     }
 
+-- ---- what is told
+
+-- what is spelled for the waiting asks is the spelling of their outcomes
+spelled_of : (opening : Rows) (log : List (Key × Call)) (asks : List (Key × Call))
+    → flat_map (λ (w : PendingAsk). flat_map spelling (outcome_by (replies_to opening (calls_of log)) w.key w.standing)) (map (pending_ask log) asks)
+    ≡ flat_map spelling (flat_map (outcome_of opening log) asks)
+spelled_of opening log [] = refl
+spelled_of opening log (ask ∷ asks) =
+    ap (λ l. flat_map spelling (outcome_of opening log ask) ++ l) (spelled_of opening log asks)
+    ∙ sym (flat_map-append spelling (outcome_of opening log ask) (flat_map (outcome_of opening log) asks))
+
+-- the outcomes of all that was due were given
+pub tells_due : (opening : Rows) (old new : ClientState) (bytes : List ℕ) → new.log ≡ old.log → new.pending ≡ drop old.due old.pending → new.due ≡ 0
+    → bytes ≡ flat_map (λ (w : PendingAsk). flat_map spelling (outcome_by (replies_to opening (calls_of old.log)) w.key w.standing)) (take old.due old.pending)
+    → new.outcomes ≡ old.outcomes ++ bytes → TellsDue opening old new
+tells_due opening old new bytes log pending due told_now appended asks sent wires came = record {
+  clients = came.clients;
+  among = came.among;
+  log_is = log ∙ came.log_is;
+  told = came.told ++ came.waiting;
+  waiting = [];
+  flushed_are = came.flushed_are ∙ sym (append-nil (came.told ++ came.waiting));
+  pending_are = pending ∙ ap (drop old.due) came.pending_are ∙ drop-map (pending_ask old.log) old.due (came.waiting ++ unflushed_asks wires)
+      ∙ ap (map (pending_ask old.log)) (ap (λ n. drop n (came.waiting ++ unflushed_asks wires)) came.due_is
+      ∙ drop-append_seam came.waiting (unflushed_asks wires))
+      ∙ ap (λ l. map (pending_ask l) (unflushed_asks wires)) (sym log);
+  due_is = due;
+  given = ap (λ (o : List ℕ). sent ++ o) appended ∙ sym (append_assoc sent old.outcomes bytes) ∙ ap (λ (o : List ℕ). o ++ bytes) came.given
+      ∙ sym all_are ∙ ap (λ (l : List (Key × Call)). flat_map spelling (flat_map (outcome_of opening l) (came.told ++ came.waiting))) (sym log);
+}
+  where
+    first : take old.due old.pending ≡ map (pending_ask old.log) came.waiting
+    first = ap (take old.due) came.pending_are ∙ take-map (pending_ask old.log) old.due (came.waiting ++ unflushed_asks wires)
+        ∙ ap (map (pending_ask old.log)) (ap (λ n. take n (came.waiting ++ unflushed_asks wires)) came.due_is
+        ∙ take-append_seam came.waiting (unflushed_asks wires))
+
+    bytes_are : bytes ≡ flat_map spelling (flat_map (outcome_of opening old.log) came.waiting)
+    bytes_are = told_now
+        ∙ ap (flat_map (λ (w : PendingAsk). flat_map spelling (outcome_by (replies_to opening (calls_of old.log)) w.key w.standing))) first
+        ∙ spelled_of opening old.log came.waiting
+
+    all_are : flat_map spelling (flat_map (outcome_of opening old.log) (came.told ++ came.waiting))
+        ≡ flat_map spelling (flat_map (outcome_of opening old.log) came.told) ++ bytes
+    all_are = ap (flat_map spelling) (flat_map-append (outcome_of opening old.log) came.told came.waiting)
+        ∙ flat_map-append spelling (flat_map (outcome_of opening old.log) came.told) (flat_map (outcome_of opening old.log) came.waiting)
+        ∙ ap (λ (l : List ℕ). flat_map spelling (flat_map (outcome_of opening old.log) came.told) ++ l) (sym bytes_are)
+
 -- ---- faults
 
 -- a frame that is refused stops a client
-pub refused_stops_client : (opening : Rows) (old mid new : ClientState) (unread left behind : List ℕ) (frame : Frame) (bytes : List ℕ)
+pub refused_stops_client : (opening : Rows) (most : ℕ) (old mid new : ClientState) (unread left behind : List ℕ) (frame : Frame) (bytes : List ℕ)
     (fault : SessionFault) → HandlesClient opening old unread mid left → Spells frame bytes → left ≡ bytes ++ behind
-    → RefusesClientFrame frame fault mid new → StopsClient opening old unread fault new
-refused_stops_client opening old mid new unread left behind frame bytes (faults.Frame f) heard spells is refused = absurd refused
-refused_stops_client opening old mid new unread left behind frame bytes Unexpected heard spells is refused = record {
-  there = mid;
-  rest = left;
-  handles = heard;
-  at = λ more. (
-    frame,
-    behind ++ more,
-    spells.valid,
-    refused.0,
-    ap (λ l. l ++ more) (is ∙ ap (λ b. b ++ behind) spells.spelled) ∙ append_assoc (spelling frame) behind more,
-  );
-  left = refused.1;
-}
-refused_stops_client opening old mid new unread left behind frame bytes CrewGone heard spells is refused = absurd refused
-refused_stops_client opening old mid new unread left behind frame bytes Device heard spells is refused = absurd refused
-refused_stops_client opening old mid new unread left behind frame bytes OutOfMemory heard spells is refused =
-    record { there = mid; rest = left; handles = heard; at = λ more. tt; left = refused }
-refused_stops_client opening old mid new unread left behind frame bytes (Log f) heard spells is refused = absurd refused
-refused_stops_client opening old mid new unread left behind frame bytes TooMany heard spells is refused = record {
-  there = mid;
-  rest = left;
-  handles = heard;
-  at = λ more. (
-    frame,
-    behind ++ more,
-    spells.valid,
-    refused.0,
-    ap (λ l. l ++ more) (is ∙ ap (λ b. b ++ behind) spells.spelled) ∙ append_assoc (spelling frame) behind more,
-  );
-  left = (refused.1, refused.2);
-}
+    → RefusesClientFrame most frame fault mid new → StopsClient opening most old unread fault new
+refused_stops_client opening most old mid new unread left behind frame bytes fault heard spells is refused =
+    subst (StopsClient opening most old unread fault) (sym refused.1) (by fault refused.0)
+  where
+    begins : (more : List ℕ) → left ++ more ≡ spelling frame ++ (behind ++ more)
+    begins more = ap (λ l. l ++ more) (is ∙ ap (λ b. b ++ behind) spells.spelled) ∙ append_assoc (spelling frame) behind more
 
-pub bad_stops_client : (opening : Rows) (old at now : ClientState) (unread left : List ℕ) (fault : FrameFault) → HandlesClient opening old unread at left
-    → decode_result left ≡ Err fault → fault ≢ Short → now ≡ at → StopsClient opening old unread (faults.Frame fault) now
-bad_stops_client opening old at now unread left fault heard bad long same =
-    record { there = at; rest = left; handles = heard; at = λ more. bad_at left more fault bad long; left = (same, long) }
+    by : (f : SessionFault) → IsFrameRefusal most frame f mid → StopsClient opening most old unread f mid
+    by (faults.Frame f) why = absurd why
+    by Unexpected why =
+        record { rest = left; handles = heard; at = λ more. (frame, behind ++ more, spells.valid, why, begins more); of_frames = tt }
+    by CrewGone why = absurd why
+    by Device why = absurd why
+    by OutOfMemory why = record { rest = left; handles = heard; at = λ more. tt; of_frames = tt }
+    by (Log f) why = absurd why
+    by TooMany why =
+        record { rest = left; handles = heard; at = λ more. (frame, behind ++ more, spells.valid, why.0, begins more); of_frames = why.1 }
+
+pub bad_stops_client : (opening : Rows) (most : ℕ) (old at : ClientState) (unread left : List ℕ) (fault : FrameFault)
+    → HandlesClient opening old unread at left → decode_result left ≡ Err fault → fault ≢ Short → StopsClient opening most old unread (faults.Frame fault) at
+bad_stops_client opening most old at unread left fault heard bad long =
+    record { rest = left; handles = heard; at = λ more. bad_at left more fault bad long; of_frames = long }
+
+-- where so many asks are behind those that are due, so many wait for a flush
+pub many_unflushed : (opening : Rows) (asks : List (Key × Call)) (sent : List ℕ) (frames : List Frame) (at : ClientState) (most : ℕ)
+    → ReachesClient opening asks sent frames at → length at.pending ≡ at.due + most → length (unflushed_asks frames) ≡ most
+many_unflushed opening asks sent frames at most came many =
+    let later = unflushed_asks frames in
+    let whole : length at.pending ≡ length came.waiting + length later =
+    ap length came.pending_are ∙ length-map (came.waiting ++ later) (pending_ask at.log) ∙ length-append came.waiting later in
+    omega (arith, whole, came.due_is, many)
 
 -- ---- bytes that are fed
 

@@ -1,34 +1,30 @@
 -- What is heard of one client, piece after piece, and what it is told.
-use Rattle.std.proofs.Common.{arith, ◌≡◌, ℕ, ◌+◌, ◌<◌, true, false, true≢false, Option, Some, None, is_some, Ok, Err, List, [], ◌∷◌, ◌++◌, drop, length, map, take, refl, sym, ap, subst, ◌∙◌, append_assoc, append-nil, inl, inr}
+use Rattle.std.proofs.Common.{arith, ◌≡◌, ℕ, ◌+◌, ◌<◌, true, false, true≢false, Option, Some, None, is_some, Ok, Err, List, [], ◌∷◌, ◌++◌, length, map, refl, sym, ap, subst, ◌∙◌, append_assoc, append-nil, inl, inr}
 use Rattle.std.specs.Prelude.{◌≢◌, ◌⊎◌}
-use Rattle.std.specs.List.{All, Contains, drop-map, flat_map, take-map}
-use Rattle.std.proofs.Math.Seq.{drop-append_seam, take-append_seam}
-use Rattle.std.proofs.lemmas.Grind.{flat_map-append}
-use Rattle.std.proofs.lemmas.List.{length-append, length-map, nil_from_length}
+use Rattle.std.specs.List.{All, Contains, flat_map}
+use Rattle.std.proofs.lemmas.List.{length-append, nil_from_length}
 use Rattle.std.proofs.lemmas.List.Elements.{All-cons, All-contains, All-contains_itself, All-head, All-nil, All-push, All-tail, Contains-append_left, Contains-append_right}
 use Rattle.sb_rows.specs.Rows.{Rows}
 use Rattle.sb_calls.specs.declared.ask.Key.{Key}
 use Rattle.sb_calls.specs.declared.call.Call.{Call}
-use Rattle.sb_calls.specs.Log.{replies_to}
 use Rattle.sb_frames.specs.Grammar.{spelling}
 use Rattle.sb_frames.specs.Decoding.{decode_result}
 use Rattle.sb_frames.specs.Streaming.{IsShort, StreamState}
 use Rattle.sb_frames.specs.declared.fault.FrameFault.{FrameFault}
 use Rattle.sb_frames.specs.declared.fault.FrameFault.TheVariants.{Short}
 use Rattle.sb_frames.specs.declared.frame.Frame as wire
-use Rattle.sb_sequencer.specs.Numbering.{calls_of, first_asks}
+use Rattle.sb_sequencer.specs.Numbering.{first_asks}
 use Rattle.bank_server.specs.Clients.{ClientOf, End, HadManyUnread, HasBytes, IsHeard, IsLeft, IsServed, PastOf, Piece, bytes_of}
 use Rattle.bank_server.specs.Pending.{pending_ask, unflushed_asks}
-use Rattle.bank_server.specs.Session.{asks_in, flushed_asks, outcome_by, outcome_of}
+use Rattle.bank_server.specs.Session.{asks_in, flushed_asks, outcome_of}
 use Rattle.bank_server.specs.SessionResults.{IsFaultAt}
 use Rattle.bank_server.specs.declared.bounds.TheConstants.{ASKS_BEFORE_FLUSH, UNREAD_BYTES}
-use Rattle.bank_server.specs.declared.pending.PendingAsk.{PendingAsk}
 use Rattle.bank_server.specs.declared.session_fault.SessionFault.{SessionFault}
 use Rattle.bank_server.specs.declared.session_fault.SessionFault.TheVariants.{Frame, Unexpected, CrewGone, Device, OutOfMemory, Log, TooMany}
-use Rattle.bank_server.specs.inner.ClientSteps.{ClientState, HandlesClient, ReachesClient, StopsClient}
+use Rattle.bank_server.specs.inner.ClientSteps.{HandlesClient, ReachesClient, StopsClient, TellsDue}
 use Rattle.bank_server.specs.inner.ClientTurns.{HearsClient, IsServing, TellsClient, ending_of, state_of_client}
-use Rattle.bank_server.proofs.FrameSteps.{bad_at}
-use Rattle.bank_server.proofs.SessionSteps.{spelled_of}
+use Rattle.bank_server.proofs.FrameSteps.{bad_at, further}
+use Rattle.bank_server.proofs.ClientSteps.{many_unflushed}
 
 -- ---- pieces
 
@@ -219,31 +215,23 @@ hears_failure opening log old new on same = nothing_taken opening log old new No
       inl (ends_there past.pieces None),
     ))
 
--- the bytes of two pieces
-further : (bytes heard unread left : List ℕ) (wires more : List wire.Frame) → heard ≡ flat_map spelling wires ++ unread
-    → unread ++ bytes ≡ flat_map spelling more ++ left → heard ++ bytes ≡ flat_map spelling (wires ++ more) ++ left
-further bytes heard unread left wires more heard_are read =
-    ap (λ (l : List ℕ). l ++ bytes) heard_are ∙ append_assoc (flat_map spelling wires) unread bytes
-    ∙ ap (λ (l : List ℕ). flat_map spelling wires ++ l) read ∙ sym (append_assoc (flat_map spelling wires) (flat_map spelling more) left)
-    ∙ ap (λ (l : List ℕ). l ++ left) (sym (flat_map-append spelling wires more))
-
 -- its bytes were taken as far as they are handled, and the rest is left
 takes_bytes : (opening : Rows) (old_log : List (Key × Call)) (old : ClientOf) (bytes : List ℕ) (new_log : List (Key × Call)) (new : ClientOf)
-    (there : ClientState) (rest : List ℕ) → is_some old.ending ≡ false → HasBytes (Some bytes)
-    → HandlesClient opening (state_of_client old_log old) (old.stream.unread ++ bytes) there rest
-    → state_of_client new_log new ≡ there
+    (rest : List ℕ) → is_some old.ending ≡ false → HasBytes (Some bytes)
+    → HandlesClient opening (state_of_client old_log old) (old.stream.unread ++ bytes) (state_of_client new_log new) rest
     → ((past : PastOf) (asks : List (Key × Call)) → All HasBytes past.pieces
-    → ReachesClient opening asks past.sent past.frames there → IsLeft new.ending past new rest)
+    → ReachesClient opening asks past.sent past.frames (state_of_client new_log new) → IsLeft new.ending past new rest)
     → HearsClient opening old_log old (Some bytes) new_log new
-takes_bytes opening old_log old bytes new_log new there rest on has handles same left asks past log_is serving =
+takes_bytes opening old_log old bytes new_log new rest on has handles left asks past log_is serving =
     let was = heard_by None past old (none_now old.ending on) serving.heard in
-    let reached : ReachesClient opening (asks ++ asks_in handles.more) past.sent (past.frames ++ handles.more) there =
+    let reached : ReachesClient opening (asks ++ asks_in handles.more) past.sent (past.frames ++ handles.more)
+    (state_of_client new_log new) =
     handles.leads asks past.sent past.frames serving.reached in
     let now : PastOf = record { pieces = past.pieces ++ Some bytes ∷ []; frames = past.frames ++ handles.more; sent = past.sent } in (
       handles.more,
-      ap (λ (s : ClientState). s.log) same ∙ reached.log_is,
+      reached.log_is,
       record {
-        reached = subst (ReachesClient opening (asks ++ asks_in handles.more) past.sent (past.frames ++ handles.more)) (sym same) reached;
+        reached = reached;
         heard = record {
           rest = rest;
           bytes_are = bytes_then past.pieces (Some bytes ∷ []) was.2.0
@@ -260,94 +248,51 @@ pub hears_well : (opening : Rows) (old_log : List (Key × Call)) (old : ClientOf
     → HandlesClient opening (state_of_client old_log old) (old.stream.unread ++ bytes) (state_of_client new_log new) new.stream.unread
     → HearsClient opening old_log old (Some bytes) new_log new
 hears_well opening old_log old bytes new_log new on has same short handles =
-    takes_bytes opening old_log old bytes new_log new (state_of_client new_log new) new.stream.unread on has handles refl
+    takes_bytes opening old_log old bytes new_log new new.stream.unread on has handles
     (λ past asks all reached. subst (λ e. IsLeft e past new new.stream.unread) (sym (same ∙ none_now old.ending on)) (all, refl, short))
 
 hears_bad : (opening : Rows) (old_log : List (Key × Call)) (old : ClientOf) (bytes : List ℕ) (new_log : List (Key × Call)) (new : ClientOf) (fault : FrameFault)
     → is_some old.ending ≡ false → HasBytes (Some bytes) → new.ending ≡ Some (Err (Frame fault))
-    → StopsClient opening (state_of_client old_log old) (old.stream.unread ++ bytes) (Frame fault) (state_of_client new_log new)
+    → StopsClient opening ASKS_BEFORE_FLUSH (state_of_client old_log old) (old.stream.unread ++ bytes) (Frame fault) (state_of_client new_log new)
     → HearsClient opening old_log old (Some bytes) new_log new
 hears_bad opening old_log old bytes new_log new fault on has is stops =
-    takes_bytes opening old_log old bytes new_log new stops.there stops.rest on has stops.handles stops.left.0
+    takes_bytes opening old_log old bytes new_log new stops.rest on has stops.handles
     (λ past asks all reached. subst (λ e. IsLeft e past new stops.rest) (sym is)
-    (subst (IsFaultAt (Frame fault)) (append-nil stops.rest) (stops.at []), inl stops.left.1))
+    (subst (IsFaultAt (Frame fault)) (append-nil stops.rest) (stops.at []), inl stops.of_frames))
 
 hears_unexpected : (opening : Rows) (old_log : List (Key × Call)) (old : ClientOf) (bytes : List ℕ) (new_log : List (Key × Call)) (new : ClientOf)
     → is_some old.ending ≡ false → HasBytes (Some bytes) → new.ending ≡ Some (Err Unexpected)
-    → StopsClient opening (state_of_client old_log old) (old.stream.unread ++ bytes) Unexpected (state_of_client new_log new)
+    → StopsClient opening ASKS_BEFORE_FLUSH (state_of_client old_log old) (old.stream.unread ++ bytes) Unexpected (state_of_client new_log new)
     → HearsClient opening old_log old (Some bytes) new_log new
 hears_unexpected opening old_log old bytes new_log new on has is stops =
-    takes_bytes opening old_log old bytes new_log new stops.there stops.rest on has stops.handles stops.left
+    takes_bytes opening old_log old bytes new_log new stops.rest on has stops.handles
     (λ past asks all reached. subst (λ e. IsLeft e past new stops.rest) (sym is) (subst (IsFaultAt Unexpected) (append-nil stops.rest) (stops.at [])))
 
 hears_many : (opening : Rows) (old_log : List (Key × Call)) (old : ClientOf) (bytes : List ℕ) (new_log : List (Key × Call)) (new : ClientOf)
     → is_some old.ending ≡ false → HasBytes (Some bytes) → new.ending ≡ Some (Err TooMany)
-    → StopsClient opening (state_of_client old_log old) (old.stream.unread ++ bytes) TooMany (state_of_client new_log new)
+    → StopsClient opening ASKS_BEFORE_FLUSH (state_of_client old_log old) (old.stream.unread ++ bytes) TooMany (state_of_client new_log new)
     → HearsClient opening old_log old (Some bytes) new_log new
 hears_many opening old_log old bytes new_log new on has is stops =
-    takes_bytes opening old_log old bytes new_log new stops.there stops.rest on has stops.handles stops.left.0
-    (λ past asks all reached. subst (λ e. IsLeft e past new stops.rest) (sym is)
-    (subst (IsFaultAt TooMany) (append-nil stops.rest) (stops.at []), many past asks reached))
-  where
-    many : (past : PastOf) (asks : List (Key × Call)) → ReachesClient opening asks past.sent past.frames stops.there
-        → length (unflushed_asks past.frames) ≡ ASKS_BEFORE_FLUSH
-    many past asks reached =
-        let later = unflushed_asks past.frames in
-        let whole : length stops.there.pending ≡ length reached.waiting + length later =
-        ap length reached.pending_are ∙ length-map (reached.waiting ++ later) (pending_ask stops.there.log) ∙ length-append reached.waiting later in
-        omega (arith, whole, reached.due_is, stops.left.1)
+    takes_bytes opening old_log old bytes new_log new stops.rest on has stops.handles
+    (λ past asks all reached. subst (λ e. IsLeft e past new stops.rest) (sym is) (
+      subst (IsFaultAt TooMany) (append-nil stops.rest) (stops.at []),
+      many_unflushed opening asks past.sent past.frames (state_of_client new_log new) ASKS_BEFORE_FLUSH reached stops.of_frames,
+    ))
 
 -- its bytes were taken up to a fault of its own
 pub hears_fault : (opening : Rows) (old_log : List (Key × Call)) (old : ClientOf) (bytes : List ℕ) (new_log : List (Key × Call)) (new : ClientOf)
     (fault : SessionFault) → is_some old.ending ≡ false → HasBytes (Some bytes) → new.ending ≡ Some (Err fault) → fault ≢ OutOfMemory
-    → StopsClient opening (state_of_client old_log old) (old.stream.unread ++ bytes) fault (state_of_client new_log new)
+    → StopsClient opening ASKS_BEFORE_FLUSH (state_of_client old_log old) (old.stream.unread ++ bytes) fault (state_of_client new_log new)
     → HearsClient opening old_log old (Some bytes) new_log new
 hears_fault opening old_log old bytes new_log new (Frame fault) on has is other stops = hears_bad opening old_log old bytes new_log new fault on has is stops
 hears_fault opening old_log old bytes new_log new Unexpected on has is other stops = hears_unexpected opening old_log old bytes new_log new on has is stops
-hears_fault opening old_log old bytes new_log new CrewGone on has is other stops = absurd stops.left
-hears_fault opening old_log old bytes new_log new Device on has is other stops = absurd stops.left
+hears_fault opening old_log old bytes new_log new CrewGone on has is other stops = absurd stops.of_frames
+hears_fault opening old_log old bytes new_log new Device on has is other stops = absurd stops.of_frames
 hears_fault opening old_log old bytes new_log new OutOfMemory on has is other stops = absurd (other refl)
-hears_fault opening old_log old bytes new_log new (Log fault) on has is other stops = absurd stops.left
+hears_fault opening old_log old bytes new_log new (Log fault) on has is other stops = absurd stops.of_frames
 hears_fault opening old_log old bytes new_log new TooMany on has is other stops = hears_many opening old_log old bytes new_log new on has is stops
 
 -- ---- what is told
-
--- the outcomes of all that was due were given
-tells_due : (opening : Rows) (asks : List (Key × Call)) (sent : List ℕ) (wires : List wire.Frame) (old new : ClientState) (bytes : List ℕ)
-    → ReachesClient opening asks sent wires old → new.log ≡ old.log → new.pending ≡ drop old.due old.pending → new.due ≡ 0
-    → bytes ≡ flat_map (λ (w : PendingAsk). flat_map spelling (outcome_by (replies_to opening (calls_of old.log)) w.key w.standing)) (take old.due old.pending)
-    → new.outcomes ≡ old.outcomes ++ bytes → ReachesClient opening asks sent wires new
-tells_due opening asks sent wires old new bytes came log pending due told_now appended = record {
-  clients = came.clients;
-  among = came.among;
-  log_is = log ∙ came.log_is;
-  told = came.told ++ came.waiting;
-  waiting = [];
-  flushed_are = came.flushed_are ∙ sym (append-nil (came.told ++ came.waiting));
-  pending_are = pending ∙ ap (drop old.due) came.pending_are ∙ drop-map (pending_ask old.log) old.due (came.waiting ++ unflushed_asks wires)
-      ∙ ap (map (pending_ask old.log)) (ap (λ n. drop n (came.waiting ++ unflushed_asks wires)) came.due_is
-      ∙ drop-append_seam came.waiting (unflushed_asks wires))
-      ∙ ap (λ l. map (pending_ask l) (unflushed_asks wires)) (sym log);
-  due_is = due;
-  given = ap (λ (o : List ℕ). sent ++ o) appended ∙ sym (append_assoc sent old.outcomes bytes) ∙ ap (λ (o : List ℕ). o ++ bytes) came.given
-      ∙ sym all_are ∙ ap (λ (l : List (Key × Call)). flat_map spelling (flat_map (outcome_of opening l) (came.told ++ came.waiting))) (sym log);
-}
-  where
-    first : take old.due old.pending ≡ map (pending_ask old.log) came.waiting
-    first = ap (take old.due) came.pending_are ∙ take-map (pending_ask old.log) old.due (came.waiting ++ unflushed_asks wires)
-        ∙ ap (map (pending_ask old.log)) (ap (λ n. take n (came.waiting ++ unflushed_asks wires)) came.due_is
-        ∙ take-append_seam came.waiting (unflushed_asks wires))
-
-    bytes_are : bytes ≡ flat_map spelling (flat_map (outcome_of opening old.log) came.waiting)
-    bytes_are = told_now
-        ∙ ap (flat_map (λ (w : PendingAsk). flat_map spelling (outcome_by (replies_to opening (calls_of old.log)) w.key w.standing))) first
-        ∙ spelled_of opening old.log came.waiting
-
-    all_are : flat_map spelling (flat_map (outcome_of opening old.log) (came.told ++ came.waiting))
-        ≡ flat_map spelling (flat_map (outcome_of opening old.log) came.told) ++ bytes
-    all_are = ap (flat_map spelling) (flat_map-append (outcome_of opening old.log) came.told came.waiting)
-        ∙ flat_map-append spelling (flat_map (outcome_of opening old.log) came.told) (flat_map (outcome_of opening old.log) came.waiting)
-        ∙ ap (λ (l : List ℕ). flat_map spelling (flat_map (outcome_of opening old.log) came.told) ++ l) (sym bytes_are)
 
 -- what was heard stays heard when outcomes are given
 heard_told : (ending : Option End) (past : PastOf) (old new : ClientOf) (bytes : List ℕ) → new.stream ≡ old.stream → new.outcomes ≡ old.outcomes ++ bytes
@@ -390,12 +335,10 @@ heard_after past old new bytes stream given (inr (on, is, many)) heard =
     heard_from (Some (Err Device)) past new is (was.0, was.1, inr (past.sent, [], sym (append-nil past.sent), many))
 
 pub tells_client : (opening : Rows) (log : List (Key × Call)) (old new : ClientOf) (bytes : List ℕ) → new.stream ≡ old.stream
-    → new.pending ≡ drop old.due old.pending → new.due ≡ 0
-    → bytes ≡ flat_map (λ (w : PendingAsk). flat_map spelling (outcome_by (replies_to opening (calls_of log)) w.key w.standing)) (take old.due old.pending)
-    → new.outcomes ≡ old.outcomes ++ bytes → (new.ending ≡ old.ending) ⊎ EndsByUnread old new → TellsClient opening log old new
-tells_client opening log old new bytes stream pending due told_now appended ending asks past serving = record {
-  reached = tells_due opening asks past.sent past.frames (state_of_client log old) (state_of_client log new) bytes serving.reached refl pending due told_now
-      appended;
+    → TellsDue opening (state_of_client log old) (state_of_client log new) → new.outcomes ≡ old.outcomes ++ bytes
+    → (new.ending ≡ old.ending) ⊎ EndsByUnread old new → TellsClient opening log old new
+tells_client opening log old new bytes stream tells appended ending asks past serving = record {
+  reached = tells asks past.sent past.frames serving.reached;
   heard = heard_after past old new bytes stream appended ending serving.heard;
 }
 

@@ -21,7 +21,6 @@ pub mod Outcomes
 pub mod OwnLog
 pub mod Runs
 pub mod Saves
-pub mod SessionSteps
 pub mod Sessions
 pub mod Standings
 pub mod Stirs

@@ -1,7 +1,6 @@
 -- The outcomes of asks, in a log that goes on.
-use Rattle.std.proofs.Common.{◌≡◌, ℕ, zero, suc, ◌+◌, ◌-◌, ◌<◌, Bool, true, false, ◌||◌, if◌then◌else◌, Option, Some, None, List, [], ◌∷◌, ◌++◌, length, map, drop, refl, sym, ap, ◌∙◌, arith, inl, inr}
+use Rattle.std.proofs.Common.{◌≡◌, ℕ, zero, suc, ◌+◌, ◌-◌, ◌<◌, Bool, true, false, ◌||◌, if◌then◌else◌, Option, Some, None, List, [], ◌∷◌, ◌++◌, length, refl, sym, ap, ◌∙◌, arith, inl, inr}
 use Rattle.std.specs.Prelude.{◌⊎◌, slice_get, nat_le}
-use Rattle.std.specs.List.{flat_map}
 use Rattle.std.proofs.lemmas.List.{length-map}
 use Rattle.std.proofs.lemmas.List.Quantifiers.{position-Some}
 use Rattle.sb_rows.specs.Rows.{Rows}
@@ -14,12 +13,10 @@ use Rattle.sb_calls.specs.declared.reply.Reply.{Reply}
 use Rattle.sb_sequencer.proofs.LogSteps.{first_asks-push}
 use Rattle.sb_sequencer.specs.Log.{log_with}
 use Rattle.sb_sequencer.specs.Numbering.{first_asks, has_key, index_of_key, same_key, calls_of}
-use Rattle.bank_server.specs.Pending.{pending_ask}
 use Rattle.bank_server.specs.Session.{outcome_by, outcome_of, outcome_of_reply}
 use Rattle.bank_server.specs.Standing.{numbered_standing, same_call, standing_at, standing_of}
 use Rattle.bank_server.specs.declared.asking.Standing.{Standing}
 use Rattle.bank_server.specs.declared.asking.Standing.TheVariants.{Number, Mismatch, LogFull}
-use Rattle.bank_server.proofs.Standings.{standings_after}
 
 some_is : {A : Type 0} {x y : A} → ◌≡◌ {A = Option A} (Some x) (Some y) → x ≡ y
 some_is h = cc
@@ -111,36 +108,3 @@ ended_as_before opening asks more ask same = elim (grown (first_asks asks) more)
       ap (λ l. outcome_of opening l ask) log
       ∙ ended_so opening (first_asks asks) more ask (ap (λ l. standing_of l ask) (sym log) ∙ same)
 ]
-
--- ---- of all asks
-
--- the standings of a part of the asks
-parts_same : {A : Type 0} (f g : A → Standing) (xs ys : List A) → map f (xs ++ ys) ≡ map g (xs ++ ys) → (map f xs ≡ map g xs) × (map f ys ≡ map g ys)
-parts_same f g [] ys e = (refl, e)
-parts_same f g (x ∷ xs) ys e =
-    let rest = parts_same f g xs ys (ap (drop 1) e) in
-    let first : f x ≡ g x = some_is (ap (λ l. slice_get l 0) e) in ((λ j. first j ∷ rest.0 j), rest.1)
-
-pub same_in_parts : (front told untold : List (Key × Call)) (more : Key × Call) → let asks = front ++ (told ++ untold) in
-    (map (standing_of (first_asks (asks ++ more ∷ []))) told ≡ map (standing_of (first_asks asks)) told)
-    × (map (standing_of (first_asks (asks ++ more ∷ []))) untold ≡ map (standing_of (first_asks asks)) untold)
-same_in_parts front told untold more =
-    let asks = front ++ (told ++ untold) in
-    let old = standing_of (first_asks asks) in
-    let new = standing_of (first_asks (asks ++ more ∷ [])) in
-    parts_same new old told untold (parts_same new old front (told ++ untold) (standings_after asks more)).1
-
-pub outcomes_same : (opening : Rows) (asks : List (Key × Call)) (more : Key × Call) (told : List (Key × Call))
-    → map (standing_of (first_asks (asks ++ more ∷ []))) told ≡ map (standing_of (first_asks asks)) told
-    → flat_map (outcome_of opening (first_asks (asks ++ more ∷ []))) told ≡ flat_map (outcome_of opening (first_asks asks)) told
-outcomes_same opening asks more [] e = refl
-outcomes_same opening asks more (ask ∷ told) e =
-    let first : standing_of (first_asks (asks ++ more ∷ [])) ask ≡ standing_of (first_asks asks) ask = some_is (ap (λ l. slice_get l 0) e) in
-    λ j. ended_as_before opening asks more ask first j ++ outcomes_same opening asks more told (ap (drop 1) e) j
-
-pub waiting_same : (old new : List (Key × Call)) (untold : List (Key × Call)) → map (standing_of new) untold ≡ map (standing_of old) untold
-    → map (pending_ask new) untold ≡ map (pending_ask old) untold
-waiting_same old new [] e = refl
-waiting_same old new (ask ∷ untold) e =
-    let first : standing_of new ask ≡ standing_of old ask = some_is (ap (λ l. slice_get l 0) e) in
-    λ j. record { key = ask.0; standing = first j } ∷ waiting_same old new untold (ap (drop 1) e) j

@@ -68,7 +68,7 @@ fault_of_opening input OutOfMemory is = tt
 pub fault_of_asks : (input : List ℕ) (opening : OpeningText) (fault : RunFault) → opening_of input ≡ Ok opening
     → IsTextFaultOf fault (in_call (asks_from (length opening.names + 2) [] (lines (drop opening.consumed input)))) → IsTextFaultOf fault (output_of input)
 fault_of_asks input opening (runs.Input line fault) read is = ap (output_from input) read ∙ ap (output_of_asks opening) is
-fault_of_asks input opening (runs.Strayed node) read is = absurd is
+fault_of_asks input opening (runs.Strayed node reason) read is = absurd is
 fault_of_asks input opening runs.CrewGone read is = absurd is
 fault_of_asks input opening runs.Device read is = absurd is
 fault_of_asks input opening runs.OutOfMemory read is = tt

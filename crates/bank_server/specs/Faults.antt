@@ -34,7 +34,7 @@ LeavesOutput other old new = Keeps old new
 -- a fault's number
 abbrev pub run_fault_number : RunFault → ℕ
 run_fault_number (Input line fault) = 1
-run_fault_number (Strayed node) = 2
+run_fault_number (Strayed node reason) = 2
 run_fault_number CrewGone = 3
 run_fault_number Device = 4
 run_fault_number OutOfMemory = 5
@@ -50,21 +50,21 @@ IsFollower nodes node = (1 ≤ node) × (node < nodes)
 
 -- memory was refused, or a follower among this many nodes strayed
 abbrev pub IsFollowersFault : ℕ → RunFault → Type 0
-IsFollowersFault nodes (Strayed node) = IsFollower nodes node
+IsFollowersFault nodes (Strayed node reason) = IsFollower nodes node
 IsFollowersFault nodes OutOfMemory = Unit {0}
 IsFollowersFault nodes other = ⊥
 
 -- what ends a run of this many nodes and workers once its input was read: a follower strayed, or
 -- there are workers and the crew is gone, or memory was refused
 abbrev pub IsNodesFault : ℕ → ℕ → RunFault → Type 0
-IsNodesFault nodes workers (Strayed node) = IsFollower nodes node
+IsNodesFault nodes workers (Strayed node reason) = IsFollower nodes node
 IsNodesFault nodes workers CrewGone = 0 < workers
 IsNodesFault nodes workers OutOfMemory = Unit {0}
 IsNodesFault nodes workers other = ⊥
 
 -- only a follower among this many nodes strays
 abbrev pub StraysAmong : ℕ → RunFault → Type 0
-StraysAmong nodes (Strayed node) = IsFollower nodes node
+StraysAmong nodes (Strayed node reason) = IsFollower nodes node
 StraysAmong nodes other = Unit {0}
 
 -- the crew is gone only if there are workers

@@ -1,8 +1,9 @@
 //! Comparing two replicas.
-ghost use Rattle.std.specs.Prelude.{◌≡◌, ◌↔◌, ℕ, IsTrue, IsOk, IfOk};
-ghost use Rattle.cown_board.specs.Board.{length_of, unfinished_of, reply_in};
-ghost use Rattle.bank_server.specs.Agreement.{Agrees};
+ghost use Rattle.std.specs.Prelude.{◌≡◌, ◌↔◌, None, length, IsTrue, IsOk, IfOk, IfSome};
+ghost use Rattle.cown_board.specs.Board.{unfinished_of};
+ghost use Rattle.bank_server.specs.Agreement.{Agrees, DiffersSo, HasSameReplies, IsFirstPlace, IsFirstReply};
 
+use crate::stray_reason::StrayReason;
 use cown_board::Runs;
 use lane_audit::{first_difference, least_difference};
 use sb_calls::Reply;
@@ -20,56 +21,54 @@ pub fn agree<S: CheckpointStore, T: CheckpointStore>(
     ensures answered { IsOk result }
     ensures value { IfOk result (λ same. IsTrue same ↔ Agrees first.now.board second.now.board) }
 {
-    let Some(one) = first.final_columns() else {
-        return Ok(false);
-    };
-    let Some(other) = second.final_columns() else {
-        return Ok(false);
-    };
-    Ok(is_same_bank(one, other) && has_same_replies(first, second))
+    Ok(difference(first, second).is_none())
 }
 
-// Whether two banks' columns are equal.
-fn is_same_bank(one: &Columns, other: &Columns) -> bool
-    ensures { IsTrue result ↔ (one.now ≡ other.now) }
-{
-    is_same_column(one.savings(), other.savings())
-        && is_same_column(one.checking(), other.checking())
-}
-
-// Whether two columns are equal.
-fn is_same_column(left: &[i64], right: &[i64]) -> bool
-    ensures { IsTrue result ↔ (left.now ≡ right.now) }
-{
-    if left.len() != right.len() {
-        return false;
-    }
-    // The law says that columns of one length without a difference are equal.
-    least_difference();
-    first_difference(left, right).is_none()
-}
-
-// Whether two idle replicas have equally many numbers, and the same reply to each.
-fn has_same_replies<S: CheckpointStore, T: CheckpointStore>(
+/// How the second replica differs from the first, if they don't agree. It takes no memory.
+pub fn difference<S: CheckpointStore, T: CheckpointStore>(
     first: &Replica<S>,
     second: &Replica<T>,
-) -> bool
+) -> Option<StrayReason>
+    ensures none { (result ≡ None) ↔ Agrees first.now.board second.now.board }
+    ensures reason { IfSome result (DiffersSo first.now.names first.now.board second.now.board) }
+{
+    let Some(one) = first.final_columns() else {
+        return Some(StrayReason::Unfinished);
+    };
+    let Some(other) = second.final_columns() else {
+        return Some(StrayReason::Unfinished);
+    };
+    if let Some(number) = first_reply(first, second) {
+        return Some(StrayReason::Entry(number));
+    }
+    if one.customers() != other.customers() {
+        return Some(StrayReason::Customers);
+    }
+    let place = first_place(one, other)?;
+    match first.directory().name(place as u32) {
+        Some(name) => Some(StrayReason::Customer(name)),
+        None => Some(StrayReason::Customers),
+    }
+}
+
+// The first number to which two idle replicas have other replies, or to which only one has a reply.
+fn first_reply<S: CheckpointStore, T: CheckpointStore>(
+    first: &Replica<S>,
+    second: &Replica<T>,
+) -> Option<u64>
     requires idle { (unfinished_of first.now.board ≡ 0) × (unfinished_of second.now.board ≡ 0) }
-    ensures { IsTrue result ↔ ((length_of first.now.board ≡ length_of second.now.board)
-        × ((number : ℕ) → reply_in first.now.board number ≡ reply_in second.now.board number)) }
+    ensures none { (result ≡ None) ↔ HasSameReplies first.now.board second.now.board }
+    ensures first { IfSome result (IsFirstReply first.now.board second.now.board) }
 {
     // Each entry is finished.
     prove!(first.idle());
     prove!(second.idle());
-    if first.length() != second.length() {
-        return false;
-    }
-    for index in 0..first.length() {
+    for index in 0..first.length().max(second.length()) {
         if !is_same_reply(first.reply(index + 1), second.reply(index + 1)) {
-            return false;
+            return Some(index + 1);
         }
     }
-    true
+    None
 }
 
 // Whether two replies are the same, or both are missing.
@@ -81,4 +80,20 @@ fn is_same_reply(one: Option<Reply>, other: Option<Reply>) -> bool
         (None, None) => true,
         _ => false,
     }
+}
+
+// The first place at which savings of as many customers differ, or else their checking balances.
+fn first_place(one: &Columns, other: &Columns) -> Option<usize>
+    requires savings { length one.now.savings ≡ length other.now.savings }
+    requires checking { length one.now.checking ≡ length other.now.checking }
+    ensures none { (result ≡ None) ↔ (one.now ≡ other.now) }
+    ensures first { IfSome result (IsFirstPlace one.now other.now) }
+{
+    // The law says that what is found is a first difference, and that without one they are equal.
+    least_difference();
+    if let Some(place) = first_difference(one.savings(), other.savings()) {
+        return Some(place);
+    }
+    let place = first_difference(one.checking(), other.checking())?;
+    Some(place)
 }

@@ -5,10 +5,8 @@ ghost use Rattle.bank_server.specs.inner.ClientTurns.{HearsClient, TellsClient, 
 ghost use Rattle.bank_server.specs.Primary.{HasWholeLog, PreservesBank, opening_rows_of};
 ghost use Rattle.bank_server.specs.declared.session_fault.SessionFault.TheVariants as faults;
 
-use crate::bounds::UNREAD_BYTES;
+use crate::bounds::{ASKS_BEFORE_FLUSH, UNREAD_BYTES};
 use crate::inbox::{Inbox, take_bytes};
-use crate::outcome_frames::push_outcomes;
-use crate::pending::PendingAsk;
 use crate::primary::Primary;
 use crate::session_fault::SessionFault;
 use sb_ask_log::Keeper;
@@ -160,7 +158,7 @@ fn hear_bytes<S: CheckpointStore, K: Keeper>(
     ensures node { primary.new.node ≡ primary.old.node }
     ensures bank { PreservesBank K.Keeps K.opening K.has_failed primary.old primary.new }
 {
-    match take_bytes(bytes, &mut client.inbox, primary) {
+    match take_bytes(bytes, ASKS_BEFORE_FLUSH, &mut client.inbox, primary) {
         Ok(()) => Ok(()),
         Err(fault) => {
             client.ending = Some(Err(own_fault(fault)?));
@@ -195,13 +193,7 @@ pub(crate) fn tell<S: CheckpointStore, K: Keeper>(
     ensures none_due { OnOk result (client.new.due ≡ 0) }
     ensures told { OnOk result (TellsClient (opening_rows_of primary.now) primary.now.log client.old client.new) }
 {
-    push_outcomes(
-        &client.inbox.pending[..client.inbox.due],
-        primary.node(),
-        &mut client.outcomes,
-    )?;
-    forget_front(&mut client.inbox.pending, client.inbox.due);
-    client.inbox.due = 0;
+    client.inbox.push_due(primary, &mut client.outcomes)?;
     client.ending = ending_by(client.ending, client.outcomes.len());
     Ok(())
 }
@@ -219,12 +211,4 @@ fn ending_by(
         return Some(Err(SessionFault::Device));
     }
     ending
-}
-
-// Forgets this many asks, the first ones.
-fn forget_front(pending: &mut Vec<PendingAsk>, count: usize)
-    requires { count ≤ length pending.old.items }
-    ensures { pending.new.items ≡ drop count pending.old.items }
-{
-    pending.drain(..count);
 }

@@ -1,5 +1,5 @@
 //! Clients who are served at once.
-ghost use Rattle.std.specs.Prelude.{◌≡◌, ◌⊎◌, ◌≤◌, ◌<◌, ◌∷◌, ◌++◌, [], ℕ, List, drop, length, take, false, IfErr, IfOk, IfSome, OnErr, OnOk, slice_get, slice_set};
+ghost use Rattle.std.specs.Prelude.{◌≡◌, ◌⊎◌, ◌≤◌, ◌<◌, ◌∷◌, ◌++◌, ◌↔◌, [], ℕ, List, drop, length, take, false, IfErr, IfOk, IfSome, IsTrue, OnErr, OnOk, slice_get, slice_set};
 ghost use Rattle.std.specs.List.{All};
 ghost use Rattle.cown_workers.specs.Draining.{HasNoneOut};
 ghost use Rattle.bank_server.specs.Clients.{AreCalmBut, ClientOf, IsReady, IsServed, StaysReady, StaysServed, ServesTurn, fresh_client, no_past, past_with, sends};
@@ -12,6 +12,7 @@ use crate::client::Client;
 use crate::places::{join, replace, take_sent};
 use crate::primary::Primary;
 use crate::session_fault::SessionFault;
+use crate::telling::settle_and_keep;
 use crate::turns::{take_arrivals, tell_all};
 use cown_workers::Crew;
 use sb_ask_log::Keeper;
@@ -65,7 +66,9 @@ impl Clients {
     }
 
     /// Whether there is no place.
-    pub fn is_empty(&self) -> bool {
+    pub fn is_empty(&self) -> bool
+        ensures { IsTrue result ↔ (self.now.all ≡ []) }
+    {
         self.all.is_empty()
     }
 
@@ -216,22 +219,4 @@ fn serve_turn<A: Arrivals, S: CheckpointStore, K: Keeper, C: Crew>(
     settle_and_keep(primary, crew)?;
     tell_all(stirred, clients, primary)?;
     Ok(())
-}
-
-// Has the whole log executed and kept.
-fn settle_and_keep<S: CheckpointStore, K: Keeper, C: Crew>(
-    primary: &mut Primary<S, K>,
-    crew: &mut C,
-) -> Result<(), SessionFault>
-    ensures whole_log { OnOk result (HasWholeLog primary.new) }
-    ensures kept { OnOk result (K.Keeps primary.new.keeper primary.new.log) }
-    ensures log { primary.new.log ≡ primary.old.log }
-    ensures bank { PreservesBank K.Keeps K.opening K.has_failed primary.old primary.new }
-    ensures none_out { C.keeps ≡ false → HasNoneOut primary.old.node.board → HasNoneOut primary.new.node.board }
-    ensures fault { IfErr result IsTurnFault }
-    ensures crew_lost { IfErr result (LosesCrew C.keeps primary.old.node.board) }
-    ensures log_lost { IfErr result (LosesLog K.fails (K.has_failed primary.new.keeper)) }
-{
-    primary.settle(crew)?;
-    primary.keep()
 }

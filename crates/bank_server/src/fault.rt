@@ -4,6 +4,7 @@ ghost use Rattle.bank_server.specs.Faults.{run_fault_number};
 ghost use Rattle.bank_server.specs.inner.RunFaults.{run_of_crew_fault, run_of_opening_fault, run_of_read_fault};
 ghost use Rattle.bank_server.specs.declared.fault.RunFault.TheVariants.{OutOfMemory};
 
+use crate::stray_reason::StrayReason;
 use cown_workers::CrewFault;
 use sb_calls::CallFault;
 use sb_rows::{LineFault, OpeningFault};
@@ -33,9 +34,10 @@ pub enum RunFault {
         /// What is wrong with the line.
         fault: InputFault,
     },
-    /// This node, a follower, couldn't be started, or differs from node 0. Nothing was written.
+    /// This node, a follower, couldn't be started, or differs from node 0, for this reason. Nothing
+    /// was written.
     #[error("node {0} strayed")]
-    Strayed(usize),
+    Strayed(usize, StrayReason),
     /// The workers left something unfinished. Nothing was written.
     #[error("crew gone")]
     CrewGone,
@@ -54,7 +56,7 @@ impl RunFault {
     {
         match self {
             RunFault::Input { .. } => 1,
-            RunFault::Strayed(_) => 2,
+            RunFault::Strayed(..) => 2,
             RunFault::CrewGone => 3,
             RunFault::Device => 4,
             RunFault::OutOfMemory => 5,

@@ -2,18 +2,19 @@
 ghost use Rattle.std.specs.Prelude.{◌≡◌, IfErr};
 ghost use Rattle.bank_server.specs.Faults.{IsFollowersFault};
 ghost use Rattle.bank_server.specs.declared.fault.RunFault.TheVariants.{Strayed};
+ghost use Rattle.bank_server.specs.declared.stray_reason.StrayReason.TheVariants.{NoThread};
 
-use crate::agreement::agree;
 use crate::fault::RunFault;
-use crate::follower::Follower;
-use sb_checkpoint::{CheckpointStore, MemoryStore};
+use crate::follower::{Follower, FollowerEnd};
+use crate::stray_reason::StrayReason;
+use sb_checkpoint::CheckpointStore;
 use sb_replica::Replica;
 use std::alloc::Global;
 use std::sync::Wait;
 use std::thread::{JoinHandle, Scope, Threads};
 
-/// The threads of followers, in order of their numbers. Each gives its replica back.
-pub(crate) type FollowerThreads = Vec<JoinHandle<Box<Replica<MemoryStore>>>>;
+/// The threads of followers, in order of their numbers. Each gives back what became of it.
+pub(crate) type FollowerThreads = Vec<JoinHandle<FollowerEnd>>;
 
 /// Starts a thread for each follower.
 pub(crate) fn start<'s, E, R: Wait + Sync>(
@@ -29,7 +30,7 @@ pub(crate) fn start<'s, E, R: Wait + Sync>(
     let mut followers = followers.into_iter();
     for number in 1..nodes {
         let Some(follower) = followers.next() else {
-            return Err(RunFault::Strayed(number));
+            return Err(RunFault::Strayed(number, StrayReason::NoThread));
         };
         threads.push(start_one(scope, rt, follower, number)?)?;
     }
@@ -42,12 +43,12 @@ fn start_one<'s, E, R: Wait + Sync>(
     rt: &'s R,
     follower: Follower,
     number: usize,
-) -> Result<JoinHandle<Box<Replica<MemoryStore>>>, RunFault>
-    ensures fault { IfErr result (λ fault. fault ≡ Strayed number) }
+) -> Result<JoinHandle<FollowerEnd>, RunFault>
+    ensures fault { IfErr result (λ fault. fault ≡ Strayed number NoThread) }
 {
     match scope.spawn(move || follower.follow(rt)) {
         Ok(thread) => Ok(thread),
-        Err(_) => Err(RunFault::Strayed(number)),
+        Err(_) => Err(RunFault::Strayed(number, StrayReason::NoThread)),
     }
 }
 
@@ -63,10 +64,10 @@ pub(crate) fn compare<R: Threads, S: CheckpointStore>(
     let mut threads = threads.into_iter();
     for number in 1..nodes {
         let Some(thread) = threads.next() else {
-            return Err(RunFault::Strayed(number));
+            return Err(RunFault::Strayed(number, StrayReason::NoThread));
         };
-        if !agree(node, &thread.join(rt))? {
-            return Err(RunFault::Strayed(number));
+        if let Some(reason) = thread.join(rt).reason(node) {
+            return Err(RunFault::Strayed(number, reason));
         }
     }
     Ok(())

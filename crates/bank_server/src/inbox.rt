@@ -1,14 +1,14 @@
-//! What comes from a client who is served beside others, frame after frame.
-ghost use Rattle.std.specs.Prelude.{◌≡◌, ◌≤◌, ◌+◌, ◌++◌, ◌∷◌, [], ℕ, List, length, false, IfErr, OnOk, OnErr};
+//! What comes from a client, frame after frame.
+ghost use Rattle.std.specs.Prelude.{◌≡◌, ◌≤◌, ◌+◌, ◌++◌, ◌∷◌, [], ℕ, List, drop, length, false, IfErr, OnOk, OnErr};
 ghost use Rattle.sb_frames.specs.Streaming.{IsShort};
 ghost use Rattle.sb_frames.specs.Streaming as streaming;
 ghost use Rattle.sb_frames.specs.declared.frame.Frame.TheVariants as frames;
 ghost use Rattle.bank_server.specs.Pending.{ArePendingWithin};
-ghost use Rattle.bank_server.specs.inner.ClientSteps.{HandlesClient, LeadsClient, RefusesClientFrame, StopsClient, inbox_state};
-ghost use Rattle.bank_server.specs.Primary.{PreservesBank, opening_rows_of};
+ghost use Rattle.bank_server.specs.inner.ClientSteps.{HandlesClient, LeadsClient, RefusesClientFrame, StopsClient, TellsDue, inbox_state};
+ghost use Rattle.bank_server.specs.Primary.{HasWholeLog, PreservesBank, opening_rows_of};
 ghost use Rattle.bank_server.specs.declared.session_fault.SessionFault.TheVariants as faults;
 
-use crate::bounds::ASKS_BEFORE_FLUSH;
+use crate::outcome_frames::push_outcomes;
 use crate::pending::PendingAsk;
 use crate::primary::Primary;
 use crate::session_fault::SessionFault;
@@ -16,7 +16,7 @@ use sb_ask_log::Keeper;
 use sb_calls::{Call, Key};
 use sb_checkpoint::CheckpointStore;
 use sb_frames::{Frame, Stream, StreamFault};
-use std::alloc::Global;
+use std::alloc::{AllocError, Global};
 
 /// What came from a client, and isn't told yet.
 #[derive(Drop)]
@@ -42,33 +42,69 @@ impl Inbox {
             due: 0,
         }
     }
+
+    /// Writes the outcomes that are due, by a log that is executed and kept, and forgets their
+    /// asks.
+    ///
+    /// Fails if memory is refused.
+    pub(crate) fn push_due<S: CheckpointStore, K: Keeper>(
+        &mut self,
+        primary: &Primary<S, K>,
+        out: &mut Vec<u8>,
+    ) -> Result<(), AllocError>
+        requires whole_log { HasWholeLog primary.now }
+        requires kept { K.Keeps primary.now.keeper primary.now.log }
+        requires within { ArePendingWithin (length primary.now.log) self.old.pending.items }
+        requires due { self.old.due ≤ length self.old.pending.items }
+        ensures within { OnOk result (ArePendingWithin (length primary.now.log) self.new.pending.items) }
+        ensures none_due { OnOk result (self.new.due ≡ 0) }
+        ensures fewer { OnOk result (length self.new.pending.items + self.old.due ≡ length self.old.pending.items) }
+        ensures tells { OnOk result (TellsDue (opening_rows_of primary.now)
+            (inbox_state primary.now.log self.old out.old.items) (inbox_state primary.now.log self.new out.new.items)) }
+        ensures behind { OnOk result ((more : List ℕ) × (out.new.items ≡ out.old.items ++ more)) }
+        ensures stream { self.new.stream ≡ self.old.stream }
+    {
+        push_outcomes(&self.pending[..self.due], primary.node(), out)?;
+        forget_front(&mut self.pending, self.due);
+        self.due = 0;
+        Ok(())
+    }
+}
+
+// Forgets this many asks, the first ones.
+fn forget_front(pending: &mut Vec<PendingAsk>, count: usize)
+    requires { count ≤ length pending.old.items }
+    ensures { pending.new.items ≡ drop count pending.old.items }
+{
+    pending.drain(..count);
 }
 
 /// Takes bytes, and each frame that is whole by then: an ask is numbered, and waits; a flush makes
-/// the outcomes of all that wait due.
+/// the outcomes of all that wait due. At most `most` asks may wait for a flush.
 ///
 /// Fails with
 /// - [`SessionFault::Frame`] if bytes come that no frame begins with,
 /// - [`SessionFault::Unexpected`] if a frame comes that is neither an ask nor a flush,
-/// - [`SessionFault::TooMany`] if an ask comes and [`ASKS_BEFORE_FLUSH`] wait for a flush,
+/// - [`SessionFault::TooMany`] if an ask comes and `most` wait for a flush,
 /// - [`SessionFault::OutOfMemory`] if memory is refused.
 pub(crate) fn take_bytes<S: CheckpointStore, K: Keeper>(
     bytes: &[u8],
+    most: usize,
     inbox: &mut Inbox,
     primary: &mut Primary<S, K>,
 ) -> Result<(), SessionFault>
     requires within { ArePendingWithin (length primary.old.log) inbox.old.pending.items }
     requires due { inbox.old.due ≤ length inbox.old.pending.items }
-    requires few { length inbox.old.pending.items ≤ inbox.old.due + ASKS_BEFORE_FLUSH }
+    requires few { length inbox.old.pending.items ≤ inbox.old.due + most }
     requires healthy { inbox.old.stream.failed ≡ false }
     ensures within { ArePendingWithin (length primary.new.log) inbox.new.pending.items }
     ensures due { inbox.new.due ≤ length inbox.new.pending.items }
-    ensures few { length inbox.new.pending.items ≤ inbox.new.due + ASKS_BEFORE_FLUSH }
+    ensures few { length inbox.new.pending.items ≤ inbox.new.due + most }
     ensures handles { OnOk result ((outcomes : List ℕ) → HandlesClient (opening_rows_of primary.old)
         (inbox_state primary.old.log inbox.old outcomes) (inbox.old.stream.unread ++ bytes.now)
         (inbox_state primary.new.log inbox.new outcomes) inbox.new.stream.unread) }
     ensures short { OnOk result (IsShort inbox.new.stream) }
-    ensures stops { IfErr result (λ fault. (outcomes : List ℕ) → StopsClient (opening_rows_of primary.old)
+    ensures stops { IfErr result (λ fault. (outcomes : List ℕ) → StopsClient (opening_rows_of primary.old) most
         (inbox_state primary.old.log inbox.old outcomes) (inbox.old.stream.unread ++ bytes.now) fault
         (inbox_state primary.new.log inbox.new outcomes)) }
     ensures grows { length primary.old.log ≤ length primary.new.log }
@@ -79,27 +115,28 @@ pub(crate) fn take_bytes<S: CheckpointStore, K: Keeper>(
         // It hadn't failed.
         return Err(SessionFault::OutOfMemory);
     }
-    take_frames(inbox, primary)
+    take_frames(most, inbox, primary)
 }
 
 // Takes each frame that is whole.
 #[tactic(auto, unfolding(sb_frames::specs::Grammar::spelling))]
 fn take_frames<S: CheckpointStore, K: Keeper>(
+    most: usize,
     inbox: &mut Inbox,
     primary: &mut Primary<S, K>,
 ) -> Result<(), SessionFault>
     requires within { ArePendingWithin (length primary.old.log) inbox.old.pending.items }
     requires due { inbox.old.due ≤ length inbox.old.pending.items }
-    requires few { length inbox.old.pending.items ≤ inbox.old.due + ASKS_BEFORE_FLUSH }
+    requires few { length inbox.old.pending.items ≤ inbox.old.due + most }
     requires healthy { inbox.old.stream.failed ≡ false }
     ensures within { ArePendingWithin (length primary.new.log) inbox.new.pending.items }
     ensures due { inbox.new.due ≤ length inbox.new.pending.items }
-    ensures few { length inbox.new.pending.items ≤ inbox.new.due + ASKS_BEFORE_FLUSH }
+    ensures few { length inbox.new.pending.items ≤ inbox.new.due + most }
     ensures handles { OnOk result ((outcomes : List ℕ) → HandlesClient (opening_rows_of primary.old)
         (inbox_state primary.old.log inbox.old outcomes) inbox.old.stream.unread
         (inbox_state primary.new.log inbox.new outcomes) inbox.new.stream.unread) }
     ensures short { OnOk result (IsShort inbox.new.stream) }
-    ensures stops { IfErr result (λ fault. (outcomes : List ℕ) → StopsClient (opening_rows_of primary.old)
+    ensures stops { IfErr result (λ fault. (outcomes : List ℕ) → StopsClient (opening_rows_of primary.old) most
         (inbox_state primary.old.log inbox.old outcomes) inbox.old.stream.unread fault
         (inbox_state primary.new.log inbox.new outcomes)) }
     ensures grows { length primary.old.log ≤ length primary.new.log }
@@ -108,7 +145,7 @@ fn take_frames<S: CheckpointStore, K: Keeper>(
 {
     loop {
         match inbox.stream.next() {
-            Ok(Some(frame)) => take_frame(&frame, inbox, primary)?,
+            Ok(Some(frame)) => take_frame(&frame, most, inbox, primary)?,
             Ok(None) => return Ok(()),
             Err(StreamFault::Bad(fault)) => return Err(SessionFault::Frame(fault)),
             // It hadn't failed, and takes no memory.
@@ -120,19 +157,20 @@ fn take_frames<S: CheckpointStore, K: Keeper>(
 // Takes a frame: an ask is numbered, and waits; a flush makes all that waits due.
 fn take_frame<S: CheckpointStore, K: Keeper>(
     frame: &Frame,
+    most: usize,
     inbox: &mut Inbox,
     primary: &mut Primary<S, K>,
 ) -> Result<(), SessionFault>
     requires within { ArePendingWithin (length primary.old.log) inbox.old.pending.items }
     requires due { inbox.old.due ≤ length inbox.old.pending.items }
-    requires few { length inbox.old.pending.items ≤ inbox.old.due + ASKS_BEFORE_FLUSH }
+    requires few { length inbox.old.pending.items ≤ inbox.old.due + most }
     ensures within { ArePendingWithin (length primary.new.log) inbox.new.pending.items }
     ensures due { inbox.new.due ≤ length inbox.new.pending.items }
-    ensures few { length inbox.new.pending.items ≤ inbox.new.due + ASKS_BEFORE_FLUSH }
+    ensures few { length inbox.new.pending.items ≤ inbox.new.due + most }
     ensures leads { OnOk result ((outcomes : List ℕ) → LeadsClient (opening_rows_of primary.old)
         (inbox_state primary.old.log inbox.old outcomes) (frame.now ∷ [])
         (inbox_state primary.new.log inbox.new outcomes)) }
-    ensures refused { IfErr result (λ fault. (outcomes : List ℕ) → RefusesClientFrame frame.now fault
+    ensures refused { IfErr result (λ fault. (outcomes : List ℕ) → RefusesClientFrame most frame.now fault
         (inbox_state primary.old.log inbox.old outcomes) (inbox_state primary.new.log inbox.new outcomes)) }
     ensures stream { inbox.new.stream ≡ inbox.old.stream }
     ensures grows { length primary.old.log ≤ length primary.new.log }
@@ -145,7 +183,7 @@ fn take_frame<S: CheckpointStore, K: Keeper>(
             request,
             call,
         } => {
-            if inbox.pending.len() - inbox.due >= ASKS_BEFORE_FLUSH {
+            if inbox.pending.len() - inbox.due >= most {
                 return Err(SessionFault::TooMany);
             }
             let key = Key {
@@ -180,7 +218,7 @@ fn number_ask<S: CheckpointStore, K: Keeper>(
     ensures grows { length primary.old.log ≤ length primary.new.log }
     ensures node { primary.new.node ≡ primary.old.node }
     ensures bank { PreservesBank K.Keeps K.opening K.has_failed primary.old primary.new }
-    ensures err { OnErr result (primary.new.log ≡ primary.old.log) }
+    ensures unchanged { OnErr result ((primary.new.log ≡ primary.old.log) × (pending.new.items ≡ pending.old.items)) }
     ensures fault { IfErr result (λ fault. fault ≡ faults.OutOfMemory) }
 {
     // Its slot is reserved before the ask is numbered.

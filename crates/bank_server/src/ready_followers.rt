@@ -1,7 +1,9 @@
 //! Followers that aren't started yet.
-ghost use Rattle.std.specs.Prelude.{◌≡◌, ◌+◌, ◌-◌, ◌≤◌, [], ◌∷◌, ◌++◌, All, length, IfOk, OnOk};
+ghost use Rattle.std.specs.Prelude.{◌≡◌, ◌+◌, ◌-◌, ◌≤◌, ◌<◌, [], ◌∷◌, ◌++◌, All, length, IfOk, OnErr, OnOk};
 ghost use Rattle.sb_rows.specs.Rows.{SameCustomers};
 ghost use Rattle.bank_server.specs.Execution.{HasNoEntries};
+ghost use Rattle.sb_checkpoint.specs.declared.memory_store.MemoryStore as stores;
+ghost use Rattle.sb_replica.specs.Replica.{ReplicaOf};
 ghost use Rattle.bank_server.specs.Followers.{IsAtOpening};
 
 use crate::boxed_replica::open_boxed;
@@ -42,6 +44,17 @@ impl Model for ReadyFollowers {
 }
 
 impl ReadyFollowers {
+    /// No followers: node 0 is alone.
+    pub fn new(alloc: Global) -> ReadyFollowers
+        ensures { result ≡ record { nodes = 1; replicas = [] } }
+    {
+        ReadyFollowers {
+            nodes: 1,
+            senders: Vec::new(alloc),
+            followers: Vec::new(alloc),
+        }
+    }
+
     /// The followers of a bank of this many nodes. Each has copies of the names and columns of node
     /// 0, which hasn't executed anything yet, and room for this many entries.
     ///
@@ -61,58 +74,50 @@ impl ReadyFollowers {
         ensures opened { IfOk result (λ ready. All (IsAtOpening node.now.names node.now.board.opening)
             ready.replicas) }
     {
+        let mut ready = ReadyFollowers::new(alloc);
+        while ready.nodes < nodes {
+            ready.add(alloc, node, entries)?;
+        }
+        // No nodes have no followers either.
+        ready.nodes = nodes;
+        Ok(ready)
+    }
+
+    /// Adds a follower behind the others. It has copies of the names and columns of this node,
+    /// which hasn't executed anything yet, and room for this many entries.
+    ///
+    /// Fails if memory is refused; nothing changes then.
+    pub fn add<S: CheckpointStore>(
+        &mut self,
+        alloc: Global,
+        node: &Replica<S>,
+        entries: usize,
+    ) -> Result<(), AllocError>
+        requires some { 1 ≤ self.old.nodes }
+        requires limit { self.old.nodes < REPLICAS }
+        requires opened { HasNoEntries node.now.board }
+        requires customers { SameCustomers node.now.names node.now.board.opening }
+        ensures nodes { OnOk result (self.new.nodes ≡ self.old.nodes + 1) }
+        ensures added { OnOk result ((follower : ReplicaOf stores.MemoryStore)
+            × IsAtOpening node.now.names node.now.board.opening follower
+            × (self.new.replicas ≡ self.old.replicas ++ follower ∷ [])) }
+        ensures err { OnErr result (self.new ≡ self.old) }
+    {
         // Nothing is unfinished.
         let columns = node.final_columns().unwrap();
-        open_followers(alloc, node.directory(), columns, nodes, entries)
+        let replica = open_copy(alloc, self.nodes as u8, node.directory(), columns, entries)?;
+        let (end, inbox) = bounded(alloc, MESSAGES)?;
+        self.senders.reserve(1)?;
+        self.followers.reserve(1)?;
+        self.senders.push_reserved(end);
+        self.followers.push_reserved(Follower {
+            replica,
+            stream: Stream::new(alloc),
+            inbox,
+        });
+        self.nodes += 1;
+        Ok(())
     }
-}
-
-// The same, at these columns.
-fn open_followers(
-    alloc: Global,
-    directory: &Directory,
-    columns: &Columns,
-    nodes: usize,
-    entries: usize,
-) -> Result<ReadyFollowers, AllocError>
-    requires limit { nodes ≤ REPLICAS }
-    requires customers { length columns.now.savings ≡ length directory.now }
-    ensures nodes { IfOk result (λ ready. ready.nodes ≡ nodes) }
-    ensures as_many { IfOk result (λ ready. length ready.replicas ≡ nodes - 1) }
-    ensures opened { IfOk result (λ ready. All (IsAtOpening directory.now columns.now) ready.replicas) }
-{
-    let mut senders = Vec::new(alloc);
-    let mut followers = Vec::new(alloc);
-    for id in 1..nodes {
-        let replica = open_copy(alloc, id as u8, directory, columns, entries)?;
-        push_follower(alloc, replica, &mut senders, &mut followers)?;
-    }
-    Ok(ReadyFollowers {
-        nodes,
-        senders,
-        followers,
-    })
-}
-
-// Appends a follower with this replica, and the end of a channel to it.
-fn push_follower(
-    alloc: Global,
-    replica: Box<Replica<MemoryStore>>,
-    senders: &mut Vec<Sender<Message>>,
-    followers: &mut Vec<Follower>,
-) -> Result<(), AllocError>
-    ensures senders { OnOk result (length senders.new.items ≡ length senders.old.items + 1) }
-    ensures follower { OnOk result ((follower : _) × (follower.replica ≡ replica)
-        × (followers.new.items ≡ followers.old.items ++ follower ∷ [])) }
-{
-    let (end, inbox) = bounded(alloc, MESSAGES)?;
-    senders.push(end)?;
-    followers.push(Follower {
-        replica,
-        stream: Stream::new(alloc),
-        inbox,
-    })?;
-    Ok(())
 }
 
 // A replica with its own names and columns, and with room for this many entries.

@@ -1,14 +1,19 @@
 //! A client's session.
-ghost use Rattle.std.specs.Prelude.{◌≡◌, [], false, IfErr, IfSome, OnOk};
+ghost use Rattle.std.specs.Prelude.{◌≡◌, ◌≤◌, ◌+◌, [], length, false, IfErr, IfSome, OnOk};
 ghost use Rattle.cown_workers.specs.Draining.{HasNoneOut};
+ghost use Rattle.sb_frames.specs.Streaming.{IsShort};
+ghost use Rattle.bank_server.specs.Pending.{ArePendingWithin};
 ghost use Rattle.bank_server.specs.Primary.{HasWholeLog, PreservesBank, opening_rows_of};
-ghost use Rattle.bank_server.specs.inner.FlushFaults.{IsEndFault};
+ghost use Rattle.bank_server.specs.inner.FlushFaults.{IsEndFault, IsFlushFault};
+ghost use Rattle.bank_server.specs.inner.SessionSteps.{LeadsSession, StopsSession, WritesDue, session_state};
 ghost use Rattle.bank_server.specs.SessionFaults.{IsClientFault, LosesCrew, LosesLog};
 ghost use Rattle.bank_server.specs.SessionResults.{ServesSession, ServesUntilFault};
 
-use crate::buffers::{SessionBuffers, handle_bytes};
+use crate::bounds::ASKS_OF_SESSION;
+use crate::inbox::{Inbox, take_bytes};
 use crate::primary::Primary;
 use crate::session_fault::SessionFault;
+use crate::telling::{settle_and_keep, tell};
 use cown_workers::Crew;
 use sb_ask_log::Keeper;
 use sb_checkpoint::CheckpointStore;
@@ -21,8 +26,8 @@ use std::io::{ErrorKind, Read, Write};
 const CHUNK: usize = 65_536;
 
 /// Serves one client, from its first byte to its last. Each ask is numbered and offered to node 0.
-/// At each flush node 0 executes the whole log, and the client gets the outcome of each ask since
-/// the previous flush.
+/// After a read with a flush node 0 executes the whole log, and the client gets the outcome of each
+/// ask since the previous flush, up to the last flush of the read.
 ///
 /// Every whole frame that was read is handled before the next read. Asks after the last flush are
 /// numbered and executed, but their client gets no outcome.
@@ -93,12 +98,20 @@ fn serve_frames<R: Read, W: Write, S: CheckpointStore, K: Keeper, C: Crew>(
     ensures log_lost { IfErr result (LosesLog K.fails (K.has_failed primary.new.keeper)) }
 {
     primary.settle(crew)?;
-    let mut buffers = SessionBuffers::new(alloc);
+    let mut inbox = Inbox::new(alloc);
+    let mut outcomes: Vec<u8> = Vec::new(alloc);
     let mut chunk = [0u8; CHUNK];
     for _ in 0..READS {
         match reader.read(&mut chunk) {
-            Ok(0) => return end(&buffers, primary, crew),
-            Ok(count) => handle_bytes(&chunk[..count], &mut buffers, writer, primary, crew)?,
+            Ok(0) => return end(&inbox, primary, crew),
+            Ok(count) => serve_bytes(
+                &chunk[..count],
+                &mut inbox,
+                &mut outcomes,
+                writer,
+                primary,
+                crew,
+            )?,
             Err(error) => {
                 if error.kind() != ErrorKind::Interrupted {
                     return Err(SessionFault::Device);
@@ -109,22 +122,93 @@ fn serve_frames<R: Read, W: Write, S: CheckpointStore, K: Keeper, C: Crew>(
     Err(SessionFault::Device)
 }
 
-// Ends a session at the end of what its client sent.
-fn end<S: CheckpointStore, K: Keeper, C: Crew>(
-    buffers: &SessionBuffers,
+// Takes the bytes of one read, and writes what a flush among them makes due, also if a fault of the
+// client comes behind it.
+fn serve_bytes<W: Write, S: CheckpointStore, K: Keeper, C: Crew>(
+    bytes: &[u8],
+    inbox: &mut Inbox,
+    outcomes: &mut Vec<u8>,
+    writer: &mut W,
     primary: &mut Primary<S, K>,
     crew: &mut C,
 ) -> Result<(), SessionFault>
-    ensures whole { OnOk result (buffers.now.stream.unread ≡ []) }
-    ensures whole_log { OnOk result (HasWholeLog primary.new) }
-    ensures log { primary.new.log ≡ primary.old.log }
-    ensures fault { IfErr result (IsEndFault buffers.now.stream) }
+    requires within { ArePendingWithin (length primary.old.log) inbox.old.pending.items }
+    requires none_due { inbox.old.due ≡ 0 }
+    requires few { length inbox.old.pending.items ≤ ASKS_OF_SESSION }
+    requires healthy { inbox.old.stream.failed ≡ false }
+    ensures within { OnOk result (ArePendingWithin (length primary.new.log) inbox.new.pending.items) }
+    ensures none_due { OnOk result (inbox.new.due ≡ 0) }
+    ensures few { OnOk result (length inbox.new.pending.items ≤ ASKS_OF_SESSION) }
+    ensures short { OnOk result (IsShort inbox.new.stream) }
+    ensures leads { OnOk result (LeadsSession (opening_rows_of primary.old)
+        (session_state primary.old.log inbox.old (W.contents writer.old)) inbox.old.stream.unread bytes.now
+        (session_state primary.new.log inbox.new (W.contents writer.new)) inbox.new.stream.unread) }
+    ensures stops { IfErr result (λ fault. StopsSession (opening_rows_of primary.old)
+        (session_state primary.old.log inbox.old (W.contents writer.old)) inbox.old.stream.unread bytes.now fault
+        (session_state primary.new.log inbox.new (W.contents writer.new))) }
     ensures bank { PreservesBank K.Keeps K.opening K.has_failed primary.old primary.new }
     ensures none_out { C.keeps ≡ false → HasNoneOut primary.old.node.board → HasNoneOut primary.new.node.board }
     ensures crew_lost { IfErr result (LosesCrew C.keeps primary.old.node.board) }
     ensures log_lost { IfErr result (LosesLog K.fails (K.has_failed primary.new.keeper)) }
 {
-    if !buffers.stream.ended() {
+    let taken = take_bytes(bytes, ASKS_OF_SESSION, inbox, primary);
+    write_due(inbox, outcomes, writer, primary, crew)?;
+    taken?;
+    primary.offer_rest(crew)
+}
+
+// Writes the outcomes that are due, once the whole log is executed and kept.
+fn write_due<W: Write, S: CheckpointStore, K: Keeper, C: Crew>(
+    inbox: &mut Inbox,
+    outcomes: &mut Vec<u8>,
+    writer: &mut W,
+    primary: &mut Primary<S, K>,
+    crew: &mut C,
+) -> Result<(), SessionFault>
+    requires within { ArePendingWithin (length primary.old.log) inbox.old.pending.items }
+    requires due { inbox.old.due ≤ length inbox.old.pending.items }
+    ensures within { OnOk result (ArePendingWithin (length primary.new.log) inbox.new.pending.items) }
+    ensures none_due { OnOk result (inbox.new.due ≡ 0) }
+    ensures fewer { OnOk result (length inbox.new.pending.items + inbox.old.due ≡ length inbox.old.pending.items) }
+    ensures writes { OnOk result (WritesDue (opening_rows_of primary.old)
+        (session_state primary.old.log inbox.old (W.contents writer.old))
+        (session_state primary.new.log inbox.new (W.contents writer.new))) }
+    ensures stream { inbox.new.stream ≡ inbox.old.stream }
+    ensures log { primary.new.log ≡ primary.old.log }
+    ensures fault { IfErr result IsFlushFault }
+    ensures bank { PreservesBank K.Keeps K.opening K.has_failed primary.old primary.new }
+    ensures none_out { C.keeps ≡ false → HasNoneOut primary.old.node.board → HasNoneOut primary.new.node.board }
+    ensures crew_lost { IfErr result (LosesCrew C.keeps primary.old.node.board) }
+    ensures log_lost { IfErr result (LosesLog K.fails (K.has_failed primary.new.keeper)) }
+{
+    if inbox.due == 0 {
+        return Ok(());
+    }
+    settle_and_keep(primary, crew)?;
+    outcomes.clear();
+    inbox.push_due(primary, outcomes)?;
+    if tell(writer, outcomes, primary).is_err() {
+        return Err(SessionFault::Device);
+    }
+    Ok(())
+}
+
+// Ends a session at the end of what its client sent.
+fn end<S: CheckpointStore, K: Keeper, C: Crew>(
+    inbox: &Inbox,
+    primary: &mut Primary<S, K>,
+    crew: &mut C,
+) -> Result<(), SessionFault>
+    ensures whole { OnOk result (inbox.now.stream.unread ≡ []) }
+    ensures whole_log { OnOk result (HasWholeLog primary.new) }
+    ensures log { primary.new.log ≡ primary.old.log }
+    ensures fault { IfErr result (IsEndFault inbox.now.stream) }
+    ensures bank { PreservesBank K.Keeps K.opening K.has_failed primary.old primary.new }
+    ensures none_out { C.keeps ≡ false → HasNoneOut primary.old.node.board → HasNoneOut primary.new.node.board }
+    ensures crew_lost { IfErr result (LosesCrew C.keeps primary.old.node.board) }
+    ensures log_lost { IfErr result (LosesLog K.fails (K.has_failed primary.new.keeper)) }
+{
+    if !inbox.stream.ended() {
         return Err(SessionFault::Frame(FrameFault::Short));
     }
     primary.settle(crew)

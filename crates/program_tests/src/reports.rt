@@ -1,6 +1,6 @@
 //! How faults are reported.
 use bank_program::{ListFault, ProgramFault, ServeFault, told};
-use bank_server::{InputFault, RunFault};
+use bank_server::{InputFault, RunFault, StrayReason};
 use sb_calls::CallFault;
 use sb_log::LogFault;
 use schedule_player::ScheduleFault;
@@ -19,10 +19,14 @@ fn expect_told(rt: &impl Abort, alloc: Global, fault: ProgramFault, status: u8, 
 fn faults_told(rt: HostRuntime) {
     let fault = InputFault::Call(CallFault::BadName);
     let refused = RunFault::Input { line: 7, fault };
-    let strayed = RunFault::Strayed(5);
+    let strayed = RunFault::Strayed(5, StrayReason::Entry(17));
     for (fault, status, text) in [
         (ProgramFault::Run(refused), 1, "smallbank: line 7: bad name"),
-        (ProgramFault::Run(strayed), 3, "smallbank: node 5 strayed"),
+        (
+            ProgramFault::Run(strayed),
+            3,
+            "smallbank: node 5 strayed\nsmallbank: node 5: differs at entry 17",
+        ),
         (
             ProgramFault::Run(RunFault::CrewGone),
             3,
@@ -43,10 +47,14 @@ fn faults_told(rt: HostRuntime) {
 fn faults_of_a_server_told(rt: HostRuntime) {
     let fault = InputFault::Call(CallFault::BadName);
     let refused = RunFault::Input { line: 7, fault };
-    let strayed = RunFault::Strayed(5);
+    let strayed = RunFault::Strayed(5, StrayReason::Entry(17));
     for (fault, status, text) in [
         (ServeFault::Run(refused), 1, "smallbank: line 7: bad name"),
-        (ServeFault::Run(strayed), 3, "smallbank: node 5 strayed"),
+        (
+            ServeFault::Run(strayed),
+            3,
+            "smallbank: node 5 strayed\nsmallbank: node 5: differs at entry 17",
+        ),
         (ServeFault::ReadBack, 3, "smallbank: read back"),
         (
             ServeFault::Store,

@@ -4,10 +4,10 @@ ghost use Rattle.bank_server.specs.Execution.{HasNoEntries};
 
 use crate::clients::{Client, Manner, TestListener, Transcript};
 use bank_program::{Plan, ServeFault, Server, serve, serve_beside};
-use bank_server::{Primary, ReadyFollowers, RunFault};
+use bank_server::{Primary, ReadyFollowers, RunFault, StrayReason};
 use cown_bench::WORKERS;
 use sb_checkpoint::{CheckpointStore, How, MemoryStore, StoreFault};
-use sb_rows::read_opening;
+use sb_rows::{Name, read_opening};
 use sb_sequencer::REPLICAS;
 use std::alloc::Global;
 use std::process::Abort;
@@ -250,7 +250,8 @@ fn serve_one_beside(
 fn followers_that_began_otherwise_stray(rt: HostRuntime) {
     let alloc = rt.alloc();
     let other = b"alice 100.00 50.00\nbob 0.01 20.00\nbegin\n";
-    let strayed = Err(ServeFault::Run(RunFault::Strayed(1)));
+    let bob = StrayReason::Customer(Name::new(b"bob").expect(&rt, "a name"));
+    let strayed = Err(ServeFault::Run(RunFault::Strayed(1, bob)));
     assert!(&rt; serve_one_beside(&rt, alloc, OPENING, 3).is_ok());
     assert!(&rt; serve_one_beside(&rt, alloc, other, 3) == strayed);
     // Without followers node 0 is compared with nobody.

@@ -92,13 +92,13 @@ fn words_of_a_server(rt: HostRuntime) {
     let usual = Words::Serve {
         port: 0,
         plan: SERVED_AS_USUAL,
-        store: None,
+        store: ".",
         log: None,
     };
     let all = Words::Serve {
         port: 65_535,
         plan: SERVED_AT_MOST,
-        store: Some("a folder"),
+        store: "a folder",
         log: None,
     };
     let port = ["--port=65535", "--sessions=1000"];
@@ -162,7 +162,7 @@ fn words_of_a_server_of_many_clients(rt: HostRuntime) {
         let read = Words::Serve {
             port: 0,
             plan,
-            store: None,
+            store: ".",
             log: None,
         };
         expect(&rt, rt.alloc(), &words, read);
@@ -190,7 +190,7 @@ fn words_of_a_server_with_a_log(rt: HostRuntime) {
         let read = Words::Serve {
             port: 0,
             plan,
-            store: None,
+            store: ".",
             log: Some("bank"),
         };
         expect(&rt, alloc, &words, read);

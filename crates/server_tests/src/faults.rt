@@ -1,9 +1,10 @@
 //! The texts and numbers of faults.
 use crate::bank::{expect, expect_bytes};
-use bank_server::{InputFault, RunFault, SaveFault, SessionFault};
+use bank_server::{InputFault, RunFault, SaveFault, SessionFault, StrayReason};
 use sb_calls::CallFault;
 use sb_frames::FrameFault;
 use sb_log::LogFault;
+use sb_rows::Name;
 use std::alloc::Global;
 use std::fmt;
 use std::process::Abort;
@@ -15,7 +16,11 @@ pub(crate) fn expect_text(rt: &impl Abort, alloc: Global, fault: &impl fmt::Disp
 }
 
 const OF_RUNS: &[(RunFault, u8, &str)] = &[
-    (RunFault::Strayed(7), 2, "node 7 strayed"),
+    (
+        RunFault::Strayed(7, StrayReason::NoThread),
+        2,
+        "node 7 strayed",
+    ),
     (RunFault::CrewGone, 3, "crew gone"),
     (RunFault::Device, 4, "device"),
     (RunFault::OutOfMemory, 5, "out of memory"),
@@ -30,6 +35,25 @@ fn faults_of_runs(rt: HostRuntime) {
     let fault = InputFault::Call(CallFault::BadName);
     let number = RunFault::Input { line: 1, fault }.number();
     expect(&rt, number == 1, "a call's fault");
+}
+
+const OF_FOLLOWERS: &[(StrayReason, &str)] = &[
+    (StrayReason::NoThread, "no thread"),
+    (StrayReason::OutOfMemory, "out of memory"),
+    (StrayReason::Frame, "bad frame"),
+    (StrayReason::Unfinished, "unfinished"),
+    (StrayReason::Entry(17), "differs at entry 17"),
+    (StrayReason::Customers, "differs in its customers"),
+];
+
+#[test]
+fn reasons_of_followers(rt: HostRuntime) {
+    for (reason, text) in OF_FOLLOWERS {
+        expect_text(&rt, rt.alloc(), reason, text);
+    }
+    let name = Name::new(b"carol_7").expect(&rt, "a name");
+    let text = "differs at customer carol_7";
+    expect_text(&rt, rt.alloc(), &StrayReason::Customer(name), text);
 }
 
 const OF_SESSIONS: &[(SessionFault, &str)] = &[

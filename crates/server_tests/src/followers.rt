@@ -1,8 +1,9 @@
 //! Followers of a bank that is served.
 use crate::bank::{OPENING, OTHER_OPENING, expect, opened, opened_at};
 use crate::wire::{BALANCE, DEPOSIT, DONE, FLUSH, SHOWN, serve};
-use bank_server::{Followers, Primary, ReadyFollowers, RunFault, with_followers};
+use bank_server::{Followers, Primary, ReadyFollowers, RunFault, StrayReason, with_followers};
 use sb_checkpoint::MemoryStore;
+use sb_rows::Name;
 use std::alloc::Global;
 use std::process::Abort;
 use std::sync::Wait;
@@ -61,8 +62,21 @@ fn compared<R: Abort + Threads + Wait + Sync>(
     followers.compare(rt, primary.node())
 }
 
-// Checks how the followers of a bank of this many nodes, with this opening, compare after they were
-// sent this.
+// Checks how these followers compare after they were sent this.
+fn expect_ready<R: Abort + Threads + Wait + Sync>(
+    rt: &R,
+    alloc: Global,
+    ready: ReadyFollowers,
+    sent_log: SentLog,
+    wanted: Result<(), RunFault>,
+) {
+    let compared = with_followers(rt, alloc, ready, |followers| {
+        compared(rt, alloc, followers, sent_log)
+    });
+    expect(rt, compared == Ok(wanted), "how they come out");
+}
+
+// The same for the followers of a bank of this many nodes, with this opening.
 fn expect_compared<R: Abort + Threads + Wait + Sync>(
     rt: &R,
     alloc: Global,
@@ -74,10 +88,7 @@ fn expect_compared<R: Abort + Threads + Wait + Sync>(
     assert!(rt; nodes <= 16);
     let other = opened_at(rt, alloc, opening, MemoryStore::new(alloc));
     let ready = ReadyFollowers::open(alloc, other.node(), nodes, 0).expect(rt, "followers");
-    let compared = with_followers(rt, alloc, ready, |followers| {
-        compared(rt, alloc, followers, sent_log)
-    });
-    expect(rt, compared == Ok(wanted), "how they come out");
+    expect_ready(rt, alloc, ready, sent_log, wanted);
 }
 
 // The same for a bank of one node, which has no followers, and for banks of two and of sixteen
@@ -87,10 +98,11 @@ fn expect_strayed<R: Abort + Threads + Wait + Sync>(
     alloc: Global,
     opening: &[u8],
     sent_log: SentLog,
+    reason: StrayReason,
 ) {
     expect_compared(rt, alloc, opening, 1, sent_log, Ok(()));
     for nodes in [2, 16] {
-        let wanted = Err(RunFault::Strayed(1));
+        let wanted = Err(RunFault::Strayed(1, reason));
         expect_compared(rt, alloc, opening, nodes, sent_log, wanted);
     }
 }
@@ -104,15 +116,33 @@ fn sent_after_each_session(rt: HostRuntime) {
 
 #[test]
 fn last_session_not_sent(rt: HostRuntime) {
-    expect_strayed(&rt, rt.alloc(), OPENING, SentLog::First);
+    let reason = StrayReason::Entry(2);
+    expect_strayed(&rt, rt.alloc(), OPENING, SentLog::First, reason);
 }
 
 #[test]
 fn another_log_sent(rt: HostRuntime) {
-    expect_strayed(&rt, rt.alloc(), OPENING, SentLog::Other);
+    let reason = StrayReason::Entry(1);
+    expect_strayed(&rt, rt.alloc(), OPENING, SentLog::Other, reason);
 }
 
 #[test]
 fn opened_otherwise(rt: HostRuntime) {
-    expect_strayed(&rt, rt.alloc(), OTHER_OPENING, SentLog::All);
+    let bob = StrayReason::Customer(Name::new(b"bob").expect(&rt, "a name"));
+    expect_strayed(&rt, rt.alloc(), OTHER_OPENING, SentLog::All, bob);
+}
+
+// Three followers, of which only the second began otherwise: each is sent the log, and each is
+// compared.
+#[test]
+fn only_the_second_strays(rt: HostRuntime) {
+    let alloc = rt.alloc();
+    let mut ready = ReadyFollowers::new(alloc);
+    for opening in [OPENING, OTHER_OPENING, OPENING] {
+        let node = opened_at(&rt, alloc, opening, MemoryStore::new(alloc));
+        assert!(&rt; ready.add(alloc, node.node(), 0).is_ok());
+    }
+    let bob = StrayReason::Customer(Name::new(b"bob").expect(&rt, "a name"));
+    let wanted = Err(RunFault::Strayed(2, bob));
+    expect_ready(&rt, alloc, ready, SentLog::All, wanted);
 }

@@ -2,6 +2,7 @@
 ghost use Rattle.std.specs.Prelude.{None, true};
 
 use crate::bank::{OPENING, expect, expect_bytes, joined};
+use crate::devices::BytewiseReader;
 use crate::wire::{BALANCE, DEPOSIT, DONE, ENTRY, FLUSH, SHOWN};
 use bank_server::{Primary, SessionFault, serve_session};
 use cown_workers::InlineCrew;
@@ -85,7 +86,12 @@ fn expect_kept(rt: &impl Abort, alloc: Global, session: &KeptSession) {
     let mut primary = kept_bank(rt, alloc, &[], session.left);
     let sent = joined(rt, alloc, session.sent);
     let told = joined(rt, alloc, session.told);
-    let mut reader = sent.as_slice();
+    // Each flush comes in a read of its own.
+    let mut reader = BytewiseReader {
+        left: &sent,
+        reads: u32::MAX,
+        fails: false,
+    };
     let mut written: Vec<u8> = Vec::new(alloc);
     let ended = serve_session(
         alloc,

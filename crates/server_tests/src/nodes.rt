@@ -1,8 +1,9 @@
 //! Node 0 executes a whole log, with followers that have its opening, or another one.
 use crate::bank::{OPENING, OTHER_OPENING, expect, opened, opened_at};
-use bank_server::{ReadyFollowers, RunFault, ask_lines, carry_out_log};
+use bank_server::{ReadyFollowers, RunFault, StrayReason, ask_lines, carry_out_log};
 use cown_workers::OpenGate;
 use sb_checkpoint::MemoryStore;
+use sb_rows::Name;
 use std::alloc::Global;
 use std::process::Abort;
 use std::sync::Wait;
@@ -53,5 +54,7 @@ fn followers_that_began_as_node_0(rt: HostRuntime) {
 
 #[test]
 fn followers_that_began_otherwise(rt: HostRuntime) {
-    expect_fault(&rt, rt.alloc(), OTHER_OPENING, Some(RunFault::Strayed(1)));
+    let bob = Name::new(b"bob").expect(&rt, "a name");
+    let strayed = RunFault::Strayed(1, StrayReason::Customer(bob));
+    expect_fault(&rt, rt.alloc(), OTHER_OPENING, Some(strayed));
 }

@@ -25,18 +25,18 @@ IsEnding end (Run OutOfMemory) = end ≡ Err session.OutOfMemory
 IsEnding end (Log fault) = end ≡ Err (session.Log fault)
 IsEnding end other = ⊥
 
--- memory was refused; or there is a store, and it takes nothing
+-- memory was refused; or the bank saves, and its store takes nothing
 abbrev pub IsStoreFault : Bool → ServeFault → Type 0
-IsStoreFault stores (Run fault) = fault ≡ OutOfMemory
-IsStoreFault stores Store = stores ≡ true
-IsStoreFault stores other = ⊥
+IsStoreFault saves (Run fault) = fault ≡ OutOfMemory
+IsStoreFault saves Store = saves ≡ true
+IsStoreFault saves other = ⊥
 
 -- the same for a server
 abbrev pub IsOpeningFault : ServeFault → Type 0
 IsOpeningFault (Run fault) = IsOpeningRunFault fault
 IsOpeningFault other = ⊥
 
--- the same, or the input can't be read; or there is a store, and it takes nothing
+-- the same, or the input can't be read; or the bank saves, and its store takes nothing
 abbrev pub IsOpenFault : Bool → ServeFault → Type 0
-IsOpenFault stores Store = stores ≡ true
-IsOpenFault stores other = IsBankFault other
+IsOpenFault saves Store = saves ≡ true
+IsOpenFault saves other = IsBankFault other

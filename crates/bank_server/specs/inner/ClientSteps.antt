@@ -1,4 +1,4 @@
--- How a client who is served beside others goes from state to state.
+-- How a client goes from state to state.
 use Rattle.std.specs.Prelude.{◌≡◌, ◌≢◌, ℕ, ◌+◌, List, ◌++◌, length, map}
 use Rattle.std.specs.List.{All, Contains, flat_map}
 use Rattle.sb_rows.specs.Rows.{Rows}
@@ -11,7 +11,6 @@ use Rattle.sb_sequencer.specs.Numbering.{first_asks}
 use Rattle.bank_server.specs.Pending.{pending_ask, unflushed_asks}
 use Rattle.bank_server.specs.Session.{IsAskFrame, IsFromClient, asks_in, flushed_asks, outcome_of}
 use Rattle.bank_server.specs.SessionResults.{IsFaultAt}
-use Rattle.bank_server.specs.declared.bounds.TheConstants.{ASKS_BEFORE_FLUSH}
 use Rattle.bank_server.specs.declared.inbox.Inbox.{Inbox}
 use Rattle.bank_server.specs.declared.pending.PendingAsk.{PendingAsk}
 use Rattle.bank_server.specs.declared.session_fault.SessionFault.{SessionFault}
@@ -57,34 +56,41 @@ pub record HandlesClient (opening : Rows) (old : ClientState) (unread : List ℕ
   pub read : unread ≡ flat_map spelling more ++ left
   pub leads : LeadsClient opening old more new
 
--- a fault of what the client sent leaves it where the frames before led it; another leaves the log
-abbrev pub IsClientAfterFault : SessionFault → ClientState → ClientState → Type 0
-IsClientAfterFault (Frame fault) there now = (now ≡ there) × (fault ≢ Short)
-IsClientAfterFault Unexpected there now = now ≡ there
-IsClientAfterFault CrewGone there now = ⊥
-IsClientAfterFault Device there now = ⊥
-IsClientAfterFault OutOfMemory there now = now.log ≡ there.log
-IsClientAfterFault (Log fault) there now = ⊥
-IsClientAfterFault TooMany there now = (now ≡ there) × (length there.pending ≡ there.due + ASKS_BEFORE_FLUSH)
+-- what a fault of a client's frames says where it comes: bytes that no frame begins with aren't only
+-- too short, and an ask is one too many only if this many wait for a flush
+abbrev pub IsFaultOfFrames : ℕ → SessionFault → ClientState → Type 0
+IsFaultOfFrames most (Frame fault) at = fault ≢ Short
+IsFaultOfFrames most Unexpected at = Unit {0}
+IsFaultOfFrames most CrewGone at = ⊥
+IsFaultOfFrames most Device at = ⊥
+IsFaultOfFrames most OutOfMemory at = Unit {0}
+IsFaultOfFrames most (Log fault) at = ⊥
+IsFaultOfFrames most TooMany at = length at.pending ≡ at.due + most
 
--- some of the unread bytes spell frames that led somewhere, and the fault came there, whatever
--- bytes follow
-pub record StopsClient (opening : Rows) (old : ClientState) (unread : List ℕ) (fault : SessionFault)
+-- some of the unread bytes spell frames that led the client to the new state, and the fault came
+-- there, whatever bytes follow
+pub record StopsClient (opening : Rows) (most : ℕ) (old : ClientState) (unread : List ℕ) (fault : SessionFault)
     (new : ClientState) : Type 0 where
-  pub there : ClientState
   pub rest : List ℕ
-  pub handles : HandlesClient opening old unread there rest
+  pub handles : HandlesClient opening old unread new rest
   pub at : (behind : List ℕ) → IsFaultAt fault (rest ++ behind)
-  pub left : IsClientAfterFault fault there new
+  pub of_frames : IsFaultOfFrames most fault new
 
--- a frame that no client sends changes nothing, nor does one ask too many, and only want of memory
--- is another reason
-abbrev pub RefusesClientFrame : frames.Frame → SessionFault → ClientState → ClientState → Type 0
-RefusesClientFrame frame (Frame fault) old new = ⊥
-RefusesClientFrame frame Unexpected old new = (¬ IsFromClient frame) × (new ≡ old)
-RefusesClientFrame frame CrewGone old new = ⊥
-RefusesClientFrame frame Device old new = ⊥
-RefusesClientFrame frame OutOfMemory old new = new.log ≡ old.log
-RefusesClientFrame frame (Log fault) old new = ⊥
-RefusesClientFrame frame TooMany old new = IsAskFrame frame × (new ≡ old)
-    × (length old.pending ≡ old.due + ASKS_BEFORE_FLUSH)
+-- why a frame is refused: no client sends it, it is one ask too many, or memory was refused
+abbrev pub IsFrameRefusal : ℕ → frames.Frame → SessionFault → ClientState → Type 0
+IsFrameRefusal most frame (Frame fault) at = ⊥
+IsFrameRefusal most frame Unexpected at = ¬ IsFromClient frame
+IsFrameRefusal most frame CrewGone at = ⊥
+IsFrameRefusal most frame Device at = ⊥
+IsFrameRefusal most frame OutOfMemory at = Unit {0}
+IsFrameRefusal most frame (Log fault) at = ⊥
+IsFrameRefusal most frame TooMany at = IsAskFrame frame × (length at.pending ≡ at.due + most)
+
+-- a frame that is refused changes nothing
+abbrev pub RefusesClientFrame : ℕ → frames.Frame → SessionFault → ClientState → ClientState → Type 0
+RefusesClientFrame most frame fault old new = IsFrameRefusal most frame fault old × (new ≡ old)
+
+-- a client is told what is due: whatever led to the old state led to the new one
+abbrev pub TellsDue : Rows → ClientState → ClientState → Type 0
+TellsDue opening old new = (asks : List (Key × Call)) (sent : List ℕ) (frames : List frames.Frame)
+    → ReachesClient opening asks sent frames old → ReachesClient opening asks sent frames new

@@ -24,7 +24,7 @@ run_of_opening_fault openings.OutOfMemory = OutOfMemory
 -- memory was refused, or a follower among this many nodes strayed, or the crew is gone; a crew that
 -- keeps no job is never gone
 abbrev pub IsTeamFault : ℕ → Bool → RunFault → Type 0
-IsTeamFault nodes keeps (Strayed node) = IsFollower nodes node
+IsTeamFault nodes keeps (Strayed node reason) = IsFollower nodes node
 IsTeamFault nodes keeps CrewGone = keeps ≢ false
 IsTeamFault nodes keeps OutOfMemory = Unit {0}
 IsTeamFault nodes keeps other = ⊥

@@ -1,81 +1,55 @@
--- The state of a session, and the frames that led there.
-use Rattle.std.specs.Prelude.{◌≡◌, ℕ, Option, List, ◌++◌, length, map}
+-- The session of a client who is served alone, read after read.
+use Rattle.std.specs.Prelude.{◌≡◌, ℕ, Option, List, [], ◌++◌}
 use Rattle.std.specs.Io.KnownBytes.{Appends}
-use Rattle.std.specs.List.{All, flat_map}
+use Rattle.std.specs.List.{flat_map}
 use Rattle.sb_rows.specs.Rows.{Rows}
 use Rattle.sb_calls.specs.declared.ask.Key.{Key}
 use Rattle.sb_calls.specs.declared.call.Call.{Call}
 use Rattle.sb_frames.specs.Grammar.{spelling}
 use Rattle.sb_frames.specs.declared.frame.Frame as frames
-use Rattle.bank_server.specs.SessionResults.{IsFaultAt}
-use Rattle.bank_server.specs.Pending.{pending_ask, unflushed_asks}
-use Rattle.bank_server.specs.Session.{IsAskFrame, IsFromClient, log_of_session, outcomes_of}
-use Rattle.bank_server.specs.declared.bounds.TheConstants.{ASKS_OF_SESSION}
-use Rattle.bank_server.specs.declared.buffers.SessionBuffers.{SessionBuffers}
-use Rattle.bank_server.specs.declared.pending.PendingAsk.{PendingAsk}
+use Rattle.bank_server.specs.Session.{asks_in}
+use Rattle.bank_server.specs.SessionResults.{ServesUntilFault}
+use Rattle.bank_server.specs.declared.inbox.Inbox.{Inbox}
 use Rattle.bank_server.specs.declared.session_fault.SessionFault.{SessionFault}
-use Rattle.bank_server.specs.declared.session_fault.SessionFault.TheVariants.{Frame, Unexpected, CrewGone, Device, OutOfMemory, Log, TooMany}
+use Rattle.bank_server.specs.inner.ClientSteps.{ClientState, ReachesClient, inbox_state}
 
--- the log so far, the asks that wait for a flush, and what the writer has
+-- the client, who leaves no outcome unread, and what the writer has
 pub record SessionState : Type 0 where
-  pub log : List (Key × Call)
-  pub pending : List PendingAsk
+  pub client : ClientState
   pub written : Option (List ℕ)
 
--- the state of a session with this log, these pending asks, and this output
-abbrev pub session_state_of : List (Key × Call) → SessionBuffers → Option (List ℕ) → SessionState
-session_state_of log buffers written = record { log = log; pending = buffers.pending.items; written = written }
+abbrev pub session_state : List (Key × Call) → Inbox → Option (List ℕ) → SessionState
+session_state log inbox written = record { client = inbox_state log inbox []; written = written }
 
--- these frames led a session there, from this log, and from this content of the writer
-pub record Reaches (opening : Rows) (before : List (Key × Call)) (start : Option (List ℕ)) (frames : List frames.Frame)
-    (at : SessionState) : Type 0 where
-  pub clients : All IsFromClient frames
-  pub log_is : at.log ≡ log_of_session before frames
-  pub pending_are : at.pending ≡ map (pending_ask at.log) (unflushed_asks frames)
-  pub written : Appends start at.written (flat_map spelling (outcomes_of opening at.log frames))
+-- these frames led the client there, in the log of these asks, and what it was sent was written
+pub record ReachesSession (opening : Rows) (asks : List (Key × Call)) (start : Option (List ℕ))
+    (frames : List frames.Frame) (at : SessionState) : Type 0 where
+  pub sent : List ℕ
+  pub reached : ReachesClient opening asks sent frames at.client
+  pub written : Appends start at.written sent
 
--- whatever frames led a session to the old state, these frames more lead it to the new one
-abbrev pub Leads : Rows → SessionState → List frames.Frame → SessionState → Type 0
-Leads opening old more new = (before : List (Key × Call)) (start : Option (List ℕ)) (frames : List frames.Frame)
-    → Reaches opening before start frames old → Reaches opening before start (frames ++ more) new
+-- what is due is written: whatever led to the old state led to the new one
+abbrev pub WritesDue : Rows → SessionState → SessionState → Type 0
+WritesDue opening old new = (asks : List (Key × Call)) (start : Option (List ℕ)) (frames : List frames.Frame)
+    → ReachesSession opening asks start frames old → ReachesSession opening asks start frames new
 
--- these unread bytes spell frames that led to the new state, and then the bytes that are unread
--- there
-pub record HandlesBytes (opening : Rows) (old : SessionState) (unread : List ℕ)
-    (new : SessionState) (left : List ℕ) : Type 0 where
-  pub more : List frames.Frame
-  pub read : unread ≡ flat_map spelling more ++ left
-  pub leads : Leads opening old more new
+-- the client's bytes so far were frames that led there, and then what is unread; all asks are those
+-- before the session and its own
+pub record HearsSession (opening : Rows) (before : List (Key × Call)) (start : Option (List ℕ)) (bytes : List ℕ)
+    (at : SessionState) (unread : List ℕ) : Type 0 where
+  pub frames : List frames.Frame
+  pub bytes_are : bytes ≡ flat_map spelling frames ++ unread
+  pub reached : ReachesSession opening (before ++ asks_in frames) start frames at
 
--- after a fault of what the client sent, the session is where the frames before it led; after any
--- other fault only its log is
-abbrev pub IsStateAfterFault : SessionFault → SessionState → SessionState → Type 0
-IsStateAfterFault (Frame fault) there now = now ≡ there
-IsStateAfterFault Unexpected there now = now ≡ there
-IsStateAfterFault CrewGone there now = now.log ≡ there.log
-IsStateAfterFault Device there now = now.log ≡ there.log
-IsStateAfterFault OutOfMemory there now = now.log ≡ there.log
-IsStateAfterFault (Log fault) there now = now.log ≡ there.log
-IsStateAfterFault TooMany there now = (now ≡ there) × (length there.pending ≡ ASKS_OF_SESSION)
+-- whatever was heard before, the session goes on with these bytes
+abbrev pub LeadsSession : Rows → SessionState → List ℕ → List ℕ → SessionState → List ℕ → Type 0
+LeadsSession opening old unread bytes new left =
+    (before : List (Key × Call)) (start : Option (List ℕ)) (heard : List ℕ)
+    → HearsSession opening before start heard old unread → HearsSession opening before start (heard ++ bytes) new left
 
--- some of the unread bytes spell frames that led somewhere, and the fault came there, whatever
--- bytes follow
-pub record Stops (opening : Rows) (old : SessionState) (unread : List ℕ)
-    (fault : SessionFault) (new : SessionState) : Type 0 where
-  pub there : SessionState
-  pub rest : List ℕ
-  pub handles : HandlesBytes opening old unread there rest
-  pub at : (behind : List ℕ) → IsFaultAt fault (rest ++ behind)
-  pub left : IsStateAfterFault fault there new
-
--- a frame that no client sends changes nothing, nor does one ask too many, and after any other fault
--- the log stays
-abbrev pub RefusesFrame : frames.Frame → SessionFault → SessionState → SessionState → Type 0
-RefusesFrame frame (Frame fault) old new = ⊥
-RefusesFrame frame Unexpected old new = (¬ IsFromClient frame) × (new ≡ old)
-RefusesFrame frame CrewGone old new = new.log ≡ old.log
-RefusesFrame frame Device old new = new.log ≡ old.log
-RefusesFrame frame OutOfMemory old new = new.log ≡ old.log
-RefusesFrame frame (Log fault) old new = new.log ≡ old.log
-RefusesFrame frame TooMany old new = IsAskFrame frame × (new ≡ old)
-    × (length old.pending ≡ ASKS_OF_SESSION)
+-- whatever was heard before, and whatever comes behind, a fault ends the session at these bytes
+abbrev pub StopsSession : Rows → SessionState → List ℕ → List ℕ → SessionFault → SessionState → Type 0
+StopsSession opening old unread bytes fault new =
+    (before : List (Key × Call)) (start : Option (List ℕ)) (heard behind : List ℕ)
+    → HearsSession opening before start heard old unread
+    → ServesUntilFault opening before new.client.log start new.written ((heard ++ bytes) ++ behind) fault

@@ -3,6 +3,7 @@ use Rattle.bank_server.specs.Clients.{ClientOf}
 use Rattle.bank_server.specs.Primary.{opening_rows_of}
 use Rattle.bank_server.specs.inner.ClientSteps.{StopsClient}
 use Rattle.bank_server.specs.inner.ClientTurns.{HearsClient, state_of_client}
+use Rattle.bank_server.specs.declared.bounds.TheConstants.{ASKS_BEFORE_FLUSH}
 use Rattle.bank_server.specs.declared.session_fault.SessionFault.{SessionFault}
 use Rattle.bank_server.proofs.ClientTurns.{has_bytes, hears_fault, hears_well, none_on}
 use Rattle.bank_server.proofs.client.hear_bytes.Goals as goal
@@ -52,5 +53,6 @@ returns-in_ok-own_fault-in-Err-clause-heard g c =
     subst (λ (x : ClientOf). HearsClient opening c.args.primary.now.log x (Some c.args.bytes.now) c.take_bytes.new.primary.log new) same
     (hears_fault opening c.args.primary.now.log old c.args.bytes.now c.take_bytes.new.primary.log new own
     (none_on old.ending on) (has_bytes c.args.bytes.now c.requires.some) refl (λ short. why.1 (sym why.0 ∙ short))
-    (subst (λ (fault : SessionFault). StopsClient opening (state_of_client c.args.primary.now.log old) (old.stream.unread ++ c.args.bytes.now) fault
-    (state_of_client c.take_bytes.new.primary.log new)) (sym why.0) (c.in-Err.ensures.stops inside.outcomes.items)))
+    (subst (λ (fault : SessionFault). StopsClient opening ASKS_BEFORE_FLUSH (state_of_client c.args.primary.now.log old)
+    (old.stream.unread ++ c.args.bytes.now) fault (state_of_client c.take_bytes.new.primary.log new)) (sym why.0)
+    (c.in-Err.ensures.stops inside.outcomes.items)))

@@ -1,4 +1,4 @@
-use Rattle.std.proofs.Common.{◌≡◌, ◌++◌, List, ℕ, refl, subst}
+use Rattle.std.proofs.Common.{◌≡◌, ◌++◌, List, ℕ, subst}
 use Rattle.std.specs.Prelude.{IfErr, OnOk}
 use Rattle.bank_server.specs.inner.ClientSteps.{HandlesClient, StopsClient, inbox_state}
 use Rattle.bank_server.specs.Primary.{opening_rows_of}
@@ -10,7 +10,7 @@ pub returns-then-is_err-clause-stops : goal.returns-then-is_err-clause-stops
 returns-then-is_err-clause-stops g c outcomes =
     let at = inbox_state c.args.primary.now.log c.args.inbox.now outcomes in
     let unread = c.args.inbox.now.stream.unread ++ c.args.bytes.now in
-    record { there = at; rest = unread; handles = handles_nothing (opening_rows_of c.args.primary.now) at unread; at = λ more. tt; left = refl }
+    record { rest = unread; handles = handles_nothing (opening_rows_of c.args.primary.now) at unread; at = λ more. tt; of_frames = tt }
 
 pub returns-then-is_err-clause-bank : goal.returns-then-is_err-clause-bank
 returns-then-is_err-clause-bank g c = stays_bank c.args.primary.now
@@ -28,7 +28,7 @@ pub returns-clause-stops : goal.returns-clause-stops
 returns-clause-stops g c =
     let fed : c.feed.new.self.unread ≡ c.args.inbox.now.stream.unread ++ c.args.bytes.now =
     fed_unread c.args.inbox.now.stream c.feed.new.self c.args.bytes.now c.feed.result c.if-is_err.ensures.value c.feed.ensures.state in
-    subst (λ (unread : List ℕ). IfErr c.take_frames.result (λ fault. (outcomes : List ℕ) → StopsClient (opening_rows_of c.args.primary.now)
+    subst (λ (unread : List ℕ). IfErr c.take_frames.result (λ fault. (outcomes : List ℕ) → StopsClient (opening_rows_of c.args.primary.now) c.args.most
     (inbox_state c.args.primary.now.log c.args.inbox.now outcomes) unread fault
     (inbox_state c.take_frames.new.primary.log c.take_frames.new.inbox outcomes)))
     fed c.take_frames.ensures.stops

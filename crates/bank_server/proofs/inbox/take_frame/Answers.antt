@@ -14,8 +14,8 @@ returns-in-Flush-clause-leads g c outcomes =
     let all : c.len-inbox.result ≡ length c.args.inbox.now.pending.items = search rules in
     subst (λ (frame : Frame). LeadsClient opening old (frame ∷ []) new) (sym c.in-Flush.is) (flush_leads_client opening old new refl refl all refl)
 
-pub returns-then-len-inbox-ge-ASKS_BEFORE_FLUSH-clause-bank : goal.returns-then-len-inbox-ge-ASKS_BEFORE_FLUSH-clause-bank
-returns-then-len-inbox-ge-ASKS_BEFORE_FLUSH-clause-bank g c = stays_bank c.args.primary.now
+pub returns-then-len-inbox-clause-bank : goal.returns-then-len-inbox-clause-bank
+returns-then-len-inbox-clause-bank g c = stays_bank c.args.primary.now
 
 pub returns-in-Flush-clause-bank : goal.returns-in-Flush-clause-bank
 returns-in-Flush-clause-bank g c = stays_bank c.args.primary.now

@@ -59,8 +59,8 @@ returns-in-Err-Bad-clause-stops g c outcomes =
     let loop = c.loop-frame in
     let at = inbox_state loop.primary.log loop.inbox outcomes in
     let why = (c.in-Err-Bad.ensures.fault (Bad c.in-Err-Bad.fault)).0 (ap Err c.in-Err-Bad.field-0-is) in
-    bad_stops_client (opening_rows_of c.args.primary.now) (inbox_state c.args.primary.now.log c.args.inbox.now outcomes) at at c.args.inbox.now.stream.unread
-    loop.inbox.stream.unread c.in-Err-Bad.fault (loop.invariant.handles outcomes) why.1 why.2 refl
+    bad_stops_client (opening_rows_of c.args.primary.now) c.args.most (inbox_state c.args.primary.now.log c.args.inbox.now outcomes) at
+    c.args.inbox.now.stream.unread loop.inbox.stream.unread c.in-Err-Bad.fault (loop.invariant.handles outcomes) why.1 why.2
 
 pub returns-in_err-take_frame-in-Ok-Some-clause-stops : goal.returns-in_err-take_frame-in-Ok-Some-clause-stops
 returns-in_err-take_frame-in-Ok-Some-clause-stops g c =
@@ -69,8 +69,8 @@ returns-in_err-take_frame-in-Ok-Some-clause-stops g c =
     let handed : HandsOut loop.inbox.stream c.in-Ok-Some.frame c.next.new.self =
     subst (λ (o : Option Frame). IfSome o (λ frame. HandsOut loop.inbox.stream frame c.next.new.self))
     c.in-Ok-Some.field-0-is c.in-Ok-Some.ensures.frame in
-    rw (p.1, p.2) (λ outcomes. refused_stops_client (opening_rows_of c.args.primary.now) (inbox_state c.args.primary.now.log c.args.inbox.now outcomes)
-    (inbox_state loop.primary.log loop.inbox outcomes) (inbox_state c.take_frame.new.primary.log c.take_frame.new.inbox outcomes)
-    c.args.inbox.now.stream.unread loop.inbox.stream.unread c.next.new.self.unread c.in-Ok-Some.frame handed.spelled.0
-    c.in_err-take_frame-in-Ok-Some.field-0.0 (loop.invariant.handles outcomes) handed.spelled.1 handed.spelled.2
-    (c.in_err-take_frame-in-Ok-Some.ensures.refused outcomes))
+    rw (p.1, p.2) (λ outcomes. refused_stops_client (opening_rows_of c.args.primary.now) c.args.most
+    (inbox_state c.args.primary.now.log c.args.inbox.now outcomes) (inbox_state loop.primary.log loop.inbox outcomes)
+    (inbox_state c.take_frame.new.primary.log c.take_frame.new.inbox outcomes) c.args.inbox.now.stream.unread loop.inbox.stream.unread
+    c.next.new.self.unread c.in-Ok-Some.frame handed.spelled.0 c.in_err-take_frame-in-Ok-Some.field-0.0 (loop.invariant.handles outcomes) handed.spelled.1
+    handed.spelled.2 (c.in_err-take_frame-in-Ok-Some.ensures.refused outcomes))

@@ -1,6 +1,5 @@
 use Rattle.std.proofs.Common.{◌≡◌, ◌≤◌, ◌+◌, ℕ, List, false, length}
 use Rattle.bank_server.specs.Pending.{ArePendingWithin}
-use Rattle.bank_server.specs.declared.bounds.TheConstants.{ASKS_BEFORE_FLUSH}
 use Rattle.bank_server.specs.inner.ClientSteps.{HandlesClient, inbox_state}
 use Rattle.bank_server.specs.Primary.{PreservesBank, opening_rows_of}
 use Rattle.bank_server.proofs.inbox.take_frames.Given as goal
@@ -12,7 +11,7 @@ invariant-loop-frame g l = record {
       (inbox_state l.primary.log l.inbox outcomes) l.inbox.stream.unread;
   within : ArePendingWithin (length l.primary.log) l.inbox.pending.items;
   due : l.inbox.due ≤ length l.inbox.pending.items;
-  few : length l.inbox.pending.items ≤ l.inbox.due + ASKS_BEFORE_FLUSH;
+  few : length l.inbox.pending.items ≤ l.inbox.due + l.fn.most;
   going : l.inbox.stream.failed ≡ false;
   grows : length l.fn.primary.log ≤ length l.primary.log;
   node : l.primary.node ≡ l.fn.primary.node;

@@ -11,7 +11,7 @@ not_whole unread false h = inl (λ none. h (none, refl))
 pub returns-then-not-ended-clause-fault : goal.returns-then-not-ended-clause-fault
 returns-then-not-ended-clause-fault g c = (
   refl,
-  not_whole c.args.buffers.now.stream.unread c.args.buffers.now.stream.failed
+  not_whole c.args.inbox.now.stream.unread c.args.inbox.now.stream.failed
       (λ whole. true≢false (sym (c.ended.ensures.1 whole) ∙ c.if-not-ended.true)),
 )
 

@@ -1,5 +1,5 @@
 use Rattle.bank_server.proofs.FrameSteps.{keeps_on}
-use Rattle.bank_server.proofs.clients.settle_and_keep.Goals as goal
+use Rattle.bank_server.proofs.telling.settle_and_keep.Goals as goal
 
 pub returns-clause-bank : goal.returns-clause-bank
 returns-clause-bank g c =

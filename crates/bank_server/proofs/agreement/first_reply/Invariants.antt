@@ -1,6 +1,6 @@
 use Rattle.std.proofs.Common.{◌≡◌, ℕ, ◌+◌, ◌<◌}
 use Rattle.cown_board.specs.Board.{reply_in}
-use Rattle.bank_server.proofs.agreement.has_same_replies.Given as goal
+use Rattle.bank_server.proofs.agreement.first_reply.Given as goal
 
 -- the replies so far are the same
 abbrev pub invariant-loop-index : goal.invariant-loop-index
