@@ -1,7 +1,12 @@
 pub mod BankAfter
 pub mod EndRows
-pub mod GoneCrews
+pub mod FollowerEvents
+pub mod FollowerMessages
+pub mod FollowerTurns
 pub mod FoundBanks
+pub mod FramesHandedOut
+pub mod FramesHeard
+pub mod GoneCrews
 pub mod OptionSearch
 pub mod OptionValues
 pub mod PrintedLines
@@ -10,3 +15,4 @@ pub mod SessionsInOrder
 pub mod SubcommandWords
 pub mod UnheardClients
 pub mod WholeOpenings
+pub mod WorkInPlace

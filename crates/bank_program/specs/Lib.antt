@@ -1,4 +1,6 @@
 pub mod Faults
+pub mod FollowerEvents
+pub mod FollowerMoves
 pub mod FoundBank
 pub mod ListFaults
 pub mod LogListing
