@@ -10,7 +10,7 @@ use Rattle.sb_replica.specs.Streams.{HandsOutAll, frames_of, last_frame}
 use Rattle.schedule_player.specs.Bank.{BankOf}
 use Rattle.schedule_player.specs.ReplicaMoves.{NodeOf}
 use Rattle.bank_program.specs.FollowerMoves.{FollowerMove, Hears, Takes, Finishes, FollowersMove, HandsOutTheLog, IsFollowerOf, IsSentToFollowers, MovesLead, MovesAlong, follower_move, follower_node, frames_heard, node_after}
-use Rattle.bank_server.specs.inner.FollowerTurns.{FollowerOf, Turn, Receives, Runs, TakesTurn, TakesTurns}
+use Rattle.bank_server.specs.FollowerTurns.{FollowerOf, Turn, Receives, Runs, TakesTurn, TakesTurns}
 use Rattle.bank_program.proofs.FramesHandedOut.{all_before, log_from_there}
 use Rattle.bank_program.proofs.FramesHeard.{hears_all}
 use Rattle.bank_program.proofs.WorkInPlace.{work_moves, works_alike}

@@ -19,9 +19,9 @@ use Rattle.schedule_player.specs.Bank.{BankOf}
 use Rattle.schedule_player.specs.OneBased.{nth_item}
 use Rattle.schedule_player.specs.ReplicaMoves.{NodeOf, undone_in}
 use Rattle.schedule_player.specs.Stage.{Stage, Waits, IsOut, IsDone}
-use Rattle.schedule_player.specs.inner.MachineView.{stage_of, stages_of, slot_length, ops_of}
-use Rattle.schedule_player.specs.inner.NodeInvariant.{IsStoredOfLog}
-use Rattle.schedule_player.specs.inner.ReplicaOfLog.{IsBoardOfLog, AreHeldOfLog}
+use Rattle.schedule_player.specs.MachineView.{stage_of, stages_of, slot_length, ops_of}
+use Rattle.schedule_player.specs.StoredOfLog.{IsStoredOfLog}
+use Rattle.schedule_player.specs.ReplicaOfLog.{IsBoardOfLog, AreHeldOfLog}
 use Rattle.schedule_player.specs.inner.SettlingSteps.{IsAtRest}
 use Rattle.schedule_player.proofs.BoardOfLog.{along_finished, along_taken}
 use Rattle.schedule_player.proofs.BoardReplies.{within_log}
@@ -31,7 +31,7 @@ use Rattle.schedule_player.proofs.Stages.{length-map, length_stages, undone_in_s
 use Rattle.schedule_player.proofs.WorkSteps.{worked, works, all_worked}
 use Rattle.bank_server.proofs.Boards.{idle_none_out}
 use Rattle.bank_program.specs.FollowerMoves.{FollowerMove, Takes, Finishes, IsFollowerOf, MovesLead, follower_node, node_after}
-use Rattle.bank_server.specs.inner.FollowerTurns.{RunsAll}
+use Rattle.bank_server.specs.FollowerTurns.{RunsAll}
 
 -- ---- the machine's one worker
 

@@ -7,7 +7,7 @@ use Rattle.sb_frames.specs.declared.frame.Frame.{Frame}
 use Rattle.sb_frames.specs.declared.frame.Frame.TheVariants.{Flush}
 use Rattle.sb_sequencer.specs.Sequencer.{SequencerOf}
 use Rattle.bank_program.specs.FollowerMoves.{HandlesMessages, IsFollowerOf, SpellTheLog, follower_node}
-use Rattle.bank_server.specs.inner.FollowerTurns.{FollowerOf}
+use Rattle.bank_server.specs.FollowerTurns.{FollowerOf}
 use Rattle.schedule_player.specs.Bank.{BankOf}
 use Rattle.schedule_player.specs.ReplicaEvents.{node_move}
 use Rattle.schedule_player.specs.ReplicaMoves.{NodeOf}

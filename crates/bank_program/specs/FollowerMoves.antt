@@ -13,13 +13,13 @@ use Rattle.sb_replica.specs.Replica.{ReplicaOf}
 use Rattle.sb_replica.specs.Streams.{HandsOutAll}
 use Rattle.cown_board.specs.Board.{length_of}
 use Rattle.cown_workers.specs.Draining.{HasNoneOut}
-use Rattle.bank_server.specs.inner.FollowerTurns.{FollowerOf, HandlesMessage, Turn, TakesTurns}
+use Rattle.bank_server.specs.FollowerTurns.{FollowerOf, HandlesMessage, Turn, TakesTurns}
 use Rattle.schedule_player.specs.Bank.{BankOf}
 use Rattle.schedule_player.specs.FramesOfLog.{IsEntryOf}
 use Rattle.schedule_player.specs.ReplicaMoves.{NodeOf, frame_move, take_move, finish_move}
-use Rattle.schedule_player.specs.inner.MachineView.{stages_of, slot_length, ops_of}
-use Rattle.schedule_player.specs.inner.NodeInvariant.{IsStoredOfLog}
-use Rattle.schedule_player.specs.inner.ReplicaOfLog.{IsBoardOfLog, AreHeldOfLog}
+use Rattle.schedule_player.specs.MachineView.{stages_of, slot_length, ops_of}
+use Rattle.schedule_player.specs.StoredOfLog.{IsStoredOfLog}
+use Rattle.schedule_player.specs.ReplicaOfLog.{IsBoardOfLog, AreHeldOfLog}
 
 -- ---- moves
 

@@ -6,7 +6,7 @@ use Rattle.std.specs.List.{AllByRecursion}
 use Rattle.cown_workers.specs.Draining.{TakesSteps, CrewStep, IsDrained, EndsInVain, KeepsNoJob}
 use Rattle.sb_calls.specs.declared.op.Op.{Op}
 use Rattle.sb_replica.specs.Replica.{RestOf, ReplicaOf, rest_of}
-use Rattle.bank_server.specs.inner.FollowerTurns.{FollowerOf, RunsAll, TakesTurn, TakesTurns, Turn}
+use Rattle.bank_server.specs.FollowerTurns.{FollowerOf, RunsAll, TakesTurn, TakesTurns, Turn}
 
 -- one more turn
 pub turn_after : {S : Type 0} (old mid new : FollowerOf S) (turns : List Turn) (turn : Turn) → TakesTurns old turns mid → TakesTurn mid turn new

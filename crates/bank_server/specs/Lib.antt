@@ -4,6 +4,7 @@ pub mod Asks
 pub mod Clients
 pub mod Execution
 pub mod Faults
+pub mod FollowerTurns
 pub mod Followers
 pub mod Input
 pub mod LogNumber

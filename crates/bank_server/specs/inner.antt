@@ -3,7 +3,6 @@ pub mod AskSteps
 pub mod ClientSteps
 pub mod ClientTurns
 pub mod FlushFaults
-pub mod FollowerTurns
 pub mod KeptPrimary
 pub mod RunFaults
 pub mod SaveFaults

@@ -1,7 +1,7 @@
 //! A replica in a thread of its own, fed with the frames of the log.
 ghost use Rattle.std.specs.Prelude.{◌≡◌, ◌↔◌, None, OnOk};
 ghost use Rattle.bank_server.specs.Agreement.{Agrees};
-ghost use Rattle.bank_server.specs.inner.FollowerTurns.{HandlesMessage, HandlesRest, RunsAll};
+ghost use Rattle.bank_server.specs.FollowerTurns.{HandlesMessage, HandlesRest, RunsAll};
 
 use crate::agreement::difference;
 use crate::frames::Message;

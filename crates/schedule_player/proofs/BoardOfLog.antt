@@ -19,7 +19,8 @@ use Rattle.sb_calls.specs.declared.op.Op.{Op}
 use Rattle.sb_calls.specs.declared.reply.Reply.{Reply}
 use Rattle.sb_checkpoint.specs.Checkpoint.{CheckpointOf}
 use Rattle.sb_replica_log.specs.Offers.{board_with_entry}
-use Rattle.schedule_player.specs.inner.ReplicaOfLog.{AreReplies, IsBoardOfLog, IsJobOfLog, IsCheckpointOfLog}
+use Rattle.schedule_player.specs.ReplicaOfLog.{AreReplies, IsBoardOfLog, IsCheckpointOfLog}
+use Rattle.schedule_player.specs.inner.JobOfLog.{IsJobOfLog}
 use Rattle.cown_board.proofs.LogLaws.{no_some as none_some}
 use Rattle.cown_board.proofs.LogLaws.{injective as some_is}
 use Rattle.schedule_player.proofs.LogParts.{held_in_part, reply_in_part, at_in_part, held_longer, reply_longer}

@@ -17,9 +17,9 @@ use Rattle.sb_calls.specs.declared.op.Op.{Op}
 use Rattle.sb_calls.specs.declared.reply.Reply.{Reply}
 use Rattle.sb_replica.proofs.IdleReplies.{reply_at, length_held}
 use Rattle.sb_replica.specs.Replica.{board_replies}
-use Rattle.schedule_player.specs.inner.ReplicaOfLog.{AreReplies, IsBoardOfLog, IsCheckpointOfLog}
+use Rattle.schedule_player.specs.ReplicaOfLog.{AreReplies, IsBoardOfLog, IsCheckpointOfLog}
 use Rattle.schedule_player.specs.OneBased.{nth_item}
-use Rattle.schedule_player.specs.inner.MachineView.{stage_of, stages_of}
+use Rattle.schedule_player.specs.MachineView.{stage_of, stages_of}
 use Rattle.schedule_player.specs.Stage.{Stage, Waits, IsOut, IsDone}
 use Rattle.schedule_player.proofs.BoardOfLog.{held_alike}
 use Rattle.cown_board.proofs.LogLaws.{no_some as none_some}

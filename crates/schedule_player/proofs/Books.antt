@@ -29,7 +29,7 @@ use Rattle.sb_text.proofs.RowsByPlace.{total_by_columns, rows_in_order-rows_of}
 use Rattle.schedule_player.specs.Bank.{BankOf, opening_rows, log_rows}
 use Rattle.schedule_player.specs.Books.{IsRowsAt}
 use Rattle.schedule_player.specs.inner.NodeInvariant.{IsNodeAt}
-use Rattle.schedule_player.specs.inner.MachineView.{ops_of}
+use Rattle.schedule_player.specs.MachineView.{ops_of}
 use Rattle.schedule_player.specs.World.{books_after}
 use Rattle.schedule_player.specs.declared.node.Node.{Node}
 use Rattle.schedule_text.specs.declared.note.AuditNote.TheVariants as audit

@@ -30,11 +30,12 @@ use Rattle.sb_replica.specs.declared.fault.RestartFault.{RestartFault}
 use Rattle.sb_replica.specs.declared.fault.RestartFault.TheVariants as restart
 use Rattle.sb_replica.proofs.IdleReplies.{length_held}
 use Rattle.sb_replica_log.specs.Log.{none_held as empty_held}
-use Rattle.schedule_player.specs.inner.ReplicaOfLog.{IsBoardOfLog, AreHeldOfLog}
+use Rattle.schedule_player.specs.ReplicaOfLog.{IsBoardOfLog, AreHeldOfLog}
 use Rattle.schedule_player.specs.Bank.{BankOf, opening_total}
-use Rattle.schedule_player.specs.inner.NodeInvariant.{machine_node, IsStoredBytes, IsStoredOfLog, IsNodeAt, IsUnchanged, MovesTo}
+use Rattle.schedule_player.specs.inner.NodeInvariant.{machine_node, IsNodeAt, IsUnchanged, MovesTo}
+use Rattle.schedule_player.specs.StoredOfLog.{IsStoredBytes, IsStoredOfLog}
 use Rattle.schedule_player.specs.ReplicaMoves.{NodeOf, cut_unless_pending, cut_move, put_move, mark_move, restart_at, restart_move}
-use Rattle.schedule_player.specs.inner.MachineView.{stages_of, slot_length, ops_of}
+use Rattle.schedule_player.specs.MachineView.{stages_of, slot_length, ops_of}
 use Rattle.schedule_player.specs.Stage.{IsDone}
 use Rattle.schedule_player.specs.declared.node.Node.{Node}
 use Rattle.schedule_text.specs.declared.note.Note.{Note}

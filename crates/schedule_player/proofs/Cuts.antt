@@ -11,11 +11,11 @@ use Rattle.sb_calls.specs.declared.op.Op.{Op}
 use Rattle.sb_checkpoint.specs.declared.memory_store.How.{How}
 use Rattle.sb_replica.proofs.MarkedReplies.{length_up_to}
 use Rattle.sb_replica.specs.Marking.{up_to, up_to_cut}
-use Rattle.schedule_player.specs.inner.ReplicaOfLog.{IsBoardOfLog}
+use Rattle.schedule_player.specs.ReplicaOfLog.{IsBoardOfLog}
 use Rattle.schedule_player.specs.Bank.{BankOf}
 use Rattle.schedule_player.specs.inner.NodeInvariant.{machine_node, IsNodeAt}
 use Rattle.schedule_player.specs.ReplicaMoves.{NodeOf, put_move, mark_up_to, mark_move}
-use Rattle.schedule_player.specs.inner.MachineView.{stage_of, stages_of}
+use Rattle.schedule_player.specs.MachineView.{stage_of, stages_of}
 use Rattle.schedule_player.specs.Stage.{IsDone, is_undone}
 use Rattle.schedule_player.specs.declared.node.Node.{Node}
 use Rattle.schedule_text.specs.declared.note.Note.{Note}

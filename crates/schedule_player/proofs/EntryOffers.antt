@@ -18,12 +18,12 @@ use Rattle.sb_replica_log.specs.Log.{LogOf}
 use Rattle.sb_replica_log.specs.Offers.{board_with_entry, log_with_entry, next_offer_answer, offer_answer, after_offer, after_held_op, after_advance}
 use Rattle.sb_replica_log.specs.declared.offered.Offered.{Offered}
 use Rattle.sb_replica_log.specs.declared.offered.Offered.TheVariants as offer
-use Rattle.schedule_player.specs.inner.ReplicaOfLog.{IsBoardOfLog, AreHeldOfLog}
+use Rattle.schedule_player.specs.ReplicaOfLog.{IsBoardOfLog, AreHeldOfLog}
 use Rattle.schedule_player.specs.Bank.{BankOf}
 use Rattle.schedule_player.specs.OneBased.{nth_item}
 use Rattle.schedule_player.specs.ReplicaMoves.{NodeOf, length_in, undone_in, with_accepted, entry_move, held_move, next_move}
 use Rattle.schedule_player.specs.inner.HeardNotes.{note_of_heard}
-use Rattle.schedule_player.specs.inner.MachineView.{stages_of, ops_of}
+use Rattle.schedule_player.specs.MachineView.{stages_of, ops_of}
 use Rattle.schedule_text.specs.declared.note.Note.{Note}
 use Rattle.schedule_text.specs.declared.note.Note.TheVariants as note
 use Rattle.schedule_player.proofs.BoardOfLog.{along_accepted}

@@ -14,12 +14,12 @@ use Rattle.sb_calls.specs.declared.op.Op.{Op}
 use Rattle.sb_calls.specs.declared.reply.Reply.{Reply}
 use Rattle.sb_calls.proofs.SerialRuns.{log_by_cowns}
 use Rattle.sb_checkpoint.specs.Reading.{stated_reply_count}
-use Rattle.schedule_player.specs.inner.ReplicaOfLog.{IsBoardOfLog}
+use Rattle.schedule_player.specs.ReplicaOfLog.{IsBoardOfLog}
 use Rattle.schedule_player.specs.Bank.{BankOf, log_reply}
 use Rattle.schedule_player.specs.inner.NodeInvariant.{number_in, machine_node, IsHandOfLog, IsNodeAt, MovesTo}
 use Rattle.schedule_player.specs.OneBased.{nth_item, with_nth, Every}
 use Rattle.schedule_player.specs.ReplicaMoves.{NodeOf, note_of_reply, finish_by_stage, finish_by_hand, with_empty_hand, finish_move}
-use Rattle.schedule_player.specs.inner.MachineView.{stage_of, stages_of, ops_of}
+use Rattle.schedule_player.specs.MachineView.{stage_of, stages_of, ops_of}
 use Rattle.schedule_player.specs.Stage.{Stage, Waits, IsOut, IsDone}
 use Rattle.schedule_player.specs.declared.node.Node.{Node}
 use Rattle.schedule_text.specs.declared.note.Note.TheVariants as note

@@ -30,7 +30,7 @@ use Rattle.schedule_player.specs.FramesOfLog.{IsEntryOf, IsSentBy}
 use Rattle.schedule_player.specs.OneBased.{nth_item, Every}
 use Rattle.schedule_player.specs.ReplicaMoves.{NodeOf, send_from, ack_move, answer_move, send_reply, reply_by_stage, reply_in_node, send_move, resend_move, frame_move, deliver_move, next_move}
 use Rattle.schedule_player.specs.inner.HeardNotes.{note_of_heard}
-use Rattle.schedule_player.specs.inner.MachineView.{stages_of, ops_of}
+use Rattle.schedule_player.specs.MachineView.{stages_of, ops_of}
 use Rattle.schedule_player.specs.Stage.{Stage, Waits, IsOut, IsDone}
 use Rattle.schedule_player.specs.World.{may_take_memory}
 use Rattle.schedule_player.specs.declared.node.Node.{Node}

@@ -9,7 +9,7 @@ use Rattle.cown_board.proofs.StateChanges.{slice_get-set_same, slice_get-set_oth
 use Rattle.sb_calls.specs.declared.op.Op.{Op}
 use Rattle.sb_replica_log.specs.Log.{none_held as empty_held}
 use Rattle.sb_replica_log.specs.declared.replica_log.TheConstants.{HELD_ENTRIES}
-use Rattle.schedule_player.specs.inner.ReplicaOfLog.{AreHeldOfLog}
+use Rattle.schedule_player.specs.ReplicaOfLog.{AreHeldOfLog}
 use Rattle.schedule_player.specs.ReplicaMoves.{empty_buffer}
 use Rattle.schedule_player.proofs.Lists.{pushed_cases}
 use Rattle.cown_board.proofs.LogLaws.{no_some as none_some}

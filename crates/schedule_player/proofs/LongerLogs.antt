@@ -17,13 +17,15 @@ use Rattle.sb_calls.specs.declared.op.Op.{Op}
 use Rattle.sb_calls.specs.declared.reply.Reply.{Reply}
 use Rattle.sb_frames.specs.declared.frame.Frame.{Frame}
 use Rattle.sb_frames.specs.declared.frame.Frame.TheVariants as frame
-use Rattle.schedule_player.specs.inner.ReplicaOfLog.{IsBoardOfLog, IsJobOfLog, IsCheckpointOfLog, AreHeldOfLog}
+use Rattle.schedule_player.specs.ReplicaOfLog.{IsBoardOfLog, IsCheckpointOfLog, AreHeldOfLog}
+use Rattle.schedule_player.specs.inner.JobOfLog.{IsJobOfLog}
 use Rattle.schedule_player.specs.Bank.{BankOf, log_reply, log_rows, opening_rows}
 use Rattle.schedule_player.specs.Books.{IsRowsAt, IsStateAt}
 use Rattle.schedule_player.specs.FramesOfLog.{IsSentBy}
-use Rattle.schedule_player.specs.inner.NodeInvariant.{IsStoredOfLog, IsHandOfLog, IsNodeAt}
+use Rattle.schedule_player.specs.inner.NodeInvariant.{IsHandOfLog, IsNodeAt}
+use Rattle.schedule_player.specs.StoredOfLog.{IsStoredOfLog}
 use Rattle.schedule_player.specs.OneBased.{nth_item}
-use Rattle.schedule_player.specs.inner.MachineView.{ops_of}
+use Rattle.schedule_player.specs.MachineView.{ops_of}
 use Rattle.schedule_player.specs.declared.node.Node.{Node}
 use Rattle.schedule_player.proofs.BoardOfLog.{board_longer, job_longer, checkpoint_longer}
 use Rattle.schedule_player.proofs.HeldEntries.{held_longer}

@@ -11,14 +11,15 @@ use Rattle.sb_calls.specs.declared.op.Op.{Op}
 use Rattle.sb_checkpoint.specs.MemoryStore.{MemoryStoreOf}
 use Rattle.sb_checkpoint.specs.Reading.{stated_reply_count}
 use Rattle.sb_replica.specs.Replica.{ReplicaOf, RestOf, rest_of}
-use Rattle.schedule_player.specs.inner.ReplicaOfLog.{IsBoardOfLog, AreHeldOfLog}
+use Rattle.schedule_player.specs.ReplicaOfLog.{IsBoardOfLog, AreHeldOfLog}
 use Rattle.schedule_player.specs.Bank.{BankOf}
-use Rattle.schedule_player.specs.inner.NodeInvariant.{number_in, machine_node, IsStoredOfLog, IsStateOfLog, IsHandOfLog, IsNodeAt, IsUnchanged, MovesTo}
+use Rattle.schedule_player.specs.inner.NodeInvariant.{number_in, machine_node, IsStateOfLog, IsHandOfLog, IsNodeAt, IsUnchanged, MovesTo}
+use Rattle.schedule_player.specs.StoredOfLog.{IsStoredOfLog}
 use Rattle.schedule_player.specs.FramesOfLog.{IsEntryOf, IsSentBy}
 use Rattle.schedule_player.specs.OneBased.{nth_item, with_nth, Every}
 use Rattle.schedule_player.specs.Readiness.{runnable_entries}
 use Rattle.schedule_player.specs.ReplicaMoves.{NodeOf, take_entry, take_by_hand, take_move}
-use Rattle.schedule_player.specs.inner.MachineView.{stages_of, ops_of, slot_length}
+use Rattle.schedule_player.specs.MachineView.{stages_of, ops_of, slot_length}
 use Rattle.schedule_player.specs.declared.node.Node.{Node}
 use Rattle.schedule_text.specs.declared.note.Note.{Note}
 use Rattle.schedule_text.specs.declared.note.Note.TheVariants as note

@@ -10,13 +10,14 @@ use Rattle.sb_calls.specs.declared.call.TheConstants.{LOG_CALLS}
 use Rattle.sb_calls.specs.declared.op.Op.{Op}
 use Rattle.sb_checkpoint.specs.Reading.{stated_reply_count}
 use Rattle.sb_replica_log.specs.Log.{none_held as empty_held}
-use Rattle.schedule_player.specs.inner.ReplicaOfLog.{IsBoardOfLog}
+use Rattle.schedule_player.specs.ReplicaOfLog.{IsBoardOfLog}
 use Rattle.schedule_player.specs.Bank.{BankOf}
-use Rattle.schedule_player.specs.inner.NodeInvariant.{number_in, machine_node, IsHandOfLog, IsStoredOfLog, IsStateOfLog, IsNodeAt}
+use Rattle.schedule_player.specs.inner.NodeInvariant.{number_in, machine_node, IsHandOfLog, IsStateOfLog, IsNodeAt}
+use Rattle.schedule_player.specs.StoredOfLog.{IsStoredOfLog}
 use Rattle.schedule_player.specs.FramesOfLog.{IsEntryOf, IsSentBy}
 use Rattle.schedule_player.specs.OneBased.{Every}
 use Rattle.schedule_player.specs.ReplicaMoves.{opened_node}
-use Rattle.schedule_player.specs.inner.MachineView.{stages_of, slot_length, ops_of}
+use Rattle.schedule_player.specs.MachineView.{stages_of, slot_length, ops_of}
 use Rattle.schedule_player.specs.declared.node.Node.{Node}
 use Rattle.schedule_player.proofs.BoardOfLog.{along_opened, opening_along}
 use Rattle.schedule_player.proofs.HeldEntries.{none_along, none_seen}

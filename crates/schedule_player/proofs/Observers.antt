@@ -10,7 +10,7 @@ use Rattle.sb_calls.specs.declared.reply.Reply.{Reply}
 use Rattle.sb_rows.specs.Balances.{Balances, IsBalances}
 use Rattle.schedule_player.specs.Bank.{BankOf, log_reply}
 use Rattle.schedule_player.specs.Books.{IsRowsAt}
-use Rattle.schedule_player.specs.inner.MachineView.{ops_of}
+use Rattle.schedule_player.specs.MachineView.{ops_of}
 use Rattle.schedule_player.specs.inner.NodeInvariant.{machine_node}
 use Rattle.schedule_player.specs.OneBased.{nth_item}
 use Rattle.schedule_player.specs.Observers.{length_at, idle_if, idle_at, reply_at_replica}

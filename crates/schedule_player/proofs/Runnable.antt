@@ -16,10 +16,10 @@ use Rattle.sb_calls.specs.Op.{op_of}
 use Rattle.sb_calls.specs.declared.call.Call.{Call}
 use Rattle.sb_calls.specs.declared.op.Op.{Op}
 use Rattle.sb_rows.specs.Rows.{SameCustomers}
-use Rattle.schedule_player.specs.inner.ReplicaOfLog.{IsBoardOfLog}
+use Rattle.schedule_player.specs.ReplicaOfLog.{IsBoardOfLog}
 use Rattle.schedule_player.specs.Bank.{BankOf}
 use Rattle.schedule_player.specs.Readiness.{stage_is, share_balance, touched_in, conflict_between, may_run, runnable_entries}
-use Rattle.schedule_player.specs.inner.MachineView.{stages_of, ops_of}
+use Rattle.schedule_player.specs.MachineView.{stages_of, ops_of}
 use Rattle.schedule_player.specs.Stage.{waits, is_undone}
 use Rattle.cown_board.proofs.LogLaws.{no_some as none_some}
 use Rattle.schedule_player.proofs.LogParts.{at_in_part}

@@ -9,7 +9,7 @@ use Rattle.sb_frames.specs.Decoding.{decode_result}
 use Rattle.sb_frames.specs.Grammar.{Spells}
 use Rattle.sb_frames.specs.declared.frame.Frame.{Frame}
 use Rattle.schedule_player.specs.OneBased.{nth_item, Every}
-use Rattle.schedule_player.specs.inner.MachineView.{frame_or_flush, frame_in, IsFrameBytes}
+use Rattle.schedule_player.specs.inner.FrameBytes.{frame_or_flush, frame_in, IsFrameBytes}
 use Rattle.cown_board.proofs.LogLaws.{no_some as none_some}
 
 -- bytes that spell a frame decode to it, and nothing is left

@@ -12,7 +12,7 @@ use Rattle.cown_board.specs.declared.state.State.TheVariants.{Waiting, Out, Fini
 use Rattle.sb_calls.specs.declared.op.Op.{Op}
 use Rattle.sb_replica_log.specs.Offers.{board_with_entry}
 use Rattle.schedule_player.specs.Readiness.{stage_is}
-use Rattle.schedule_player.specs.inner.MachineView.{stage_of, stages_of}
+use Rattle.schedule_player.specs.MachineView.{stage_of, stages_of}
 use Rattle.schedule_player.specs.Stage.{Stage, Waits, IsOut, IsDone, waits, is_undone}
 
 pub length-map : {A B : Type 0} (f : A → B) (xs : List A) → length (map f xs) ≡ length xs

@@ -18,11 +18,12 @@ use Rattle.sb_replica.specs.Restarting.{IsBoardOn}
 use Rattle.sb_replica.specs.States.{Gives, ReadsState, Adopts, state_length}
 use Rattle.sb_replica.specs.declared.adopted.Adopted.TheVariants as answer
 use Rattle.schedule_player.specs.Bank.{BankOf}
-use Rattle.schedule_player.specs.inner.NodeInvariant.{machine_node, IsStateOfLog, IsStoredOfLog, HasState, IsNodeAt, MovesTo}
+use Rattle.schedule_player.specs.inner.NodeInvariant.{machine_node, IsStateOfLog, HasState, IsNodeAt, MovesTo}
+use Rattle.schedule_player.specs.StoredOfLog.{IsStoredOfLog}
 use Rattle.schedule_player.specs.FramesOfLog.{IsSentBy}
 use Rattle.schedule_player.specs.OneBased.{nth_item, Every}
 use Rattle.schedule_player.specs.ReplicaMoves.{state_move, adopt_move, send_from, have_move, receive_move, length_in}
-use Rattle.schedule_player.specs.inner.MachineView.{slot_length}
+use Rattle.schedule_player.specs.MachineView.{slot_length}
 use Rattle.schedule_player.specs.World.{may_take_memory}
 use Rattle.schedule_player.specs.declared.node.Node.{Node}
 use Rattle.schedule_text.specs.declared.note.Note.TheVariants as note

@@ -17,7 +17,7 @@ use Rattle.schedule_player.specs.FramesOfLog.{IsEntryOf, IsSentBy}
 use Rattle.schedule_player.specs.inner.NodeInvariant.{IsNodeAt, machine_node}
 use Rattle.schedule_player.specs.OneBased.{Every}
 use Rattle.schedule_player.specs.ReplicaMoves.{NodeOf, length_in, opened_node}
-use Rattle.schedule_player.specs.inner.MachineView.{ops_of}
+use Rattle.schedule_player.specs.MachineView.{ops_of}
 use Rattle.schedule_player.specs.inner.OutInHands.{OutIsInHands}
 use Rattle.schedule_player.specs.LogAgreement.{WorldAgreesWithLog}
 use Rattle.schedule_player.specs.World.{bank_with}

@@ -1,9 +1,9 @@
 pub mod FaultConversions
+pub mod FrameBytes
 pub mod HeardNotes
-pub mod MachineView
+pub mod JobOfLog
 pub mod NodeInvariant
 pub mod OutInHands
 pub mod ReceivesFrame
-pub mod ReplicaOfLog
 pub mod SettlingSteps
 pub mod WorldInvariant

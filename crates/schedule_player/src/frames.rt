@@ -4,7 +4,7 @@ ghost use Rattle.std.specs.Option.{option_copied};
 ghost use Rattle.sb_frames.specs.Grammar.{Spells};
 ghost use Rattle.sb_frames.specs.declared.frame.Frame.{Frame as AnyFrame};
 ghost use Rattle.schedule_player.specs.OneBased.{nth_item, Every};
-ghost use Rattle.schedule_player.specs.inner.MachineView.{frame_in, IsFrameBytes};
+ghost use Rattle.schedule_player.specs.inner.FrameBytes.{frame_in, IsFrameBytes};
 
 use arrayvec::ArrayVec;
 use sb_frames::{Frame, MAX_FRAME, encode};
@@ -21,7 +21,7 @@ impl Model for Frames {
     ghost use Rattle.std.specs.Prelude.{List, map};
     ghost use Rattle.sb_frames.specs.declared.frame.Frame.{Frame as AnyFrame};
     ghost use Rattle.schedule_player.specs.OneBased.{Every};
-    ghost use Rattle.schedule_player.specs.inner.MachineView.{frame_in, IsFrameBytes};
+    ghost use Rattle.schedule_player.specs.inner.FrameBytes.{frame_in, IsFrameBytes};
 
     ghost Value = { List AnyFrame };
 

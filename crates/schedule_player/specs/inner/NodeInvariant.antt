@@ -1,18 +1,19 @@
 -- A node of the code, as the machine sees it, and compared with the log.
-use Rattle.std.specs.Prelude.{◌≡◌, ◌≢◌, ℕ, ◌≤◌, Option, Some, None, IfSome, IsTrue, Result, Ok, Err, List, [], length, map, is_some, option_map}
+use Rattle.std.specs.Prelude.{◌≡◌, ◌≢◌, ℕ, ◌≤◌, Option, Some, None, IfSome, IsTrue, Result, Ok, Err, List, length, map, is_some, option_map}
 use Rattle.sb_rows.specs.Rows.{SameCustomers}
 use Rattle.sb_calls.specs.Cowns.{contents_of}
 use Rattle.sb_calls.specs.declared.call.TheConstants.{LOG_CALLS}
 use Rattle.sb_calls.specs.declared.op.Op.{Op}
-use Rattle.sb_checkpoint.specs.Checkpoint.{CheckpointOf, Second, SpellsInLayout}
 use Rattle.sb_checkpoint.specs.Reading.{stated_reply_count}
 use Rattle.cown_board.specs.Board.{length_of}
 use Rattle.cown_board.specs.Job.{JobOf}
-use Rattle.schedule_player.specs.inner.ReplicaOfLog.{IsBoardOfLog, IsJobOfLog, IsCheckpointOfLog, AreHeldOfLog}
-use Rattle.schedule_player.specs.Bank.{BankOf, opening_total}
+use Rattle.schedule_player.specs.ReplicaOfLog.{IsBoardOfLog, AreHeldOfLog}
+use Rattle.schedule_player.specs.inner.JobOfLog.{IsJobOfLog}
+use Rattle.schedule_player.specs.StoredOfLog.{IsStoredOfLog}
+use Rattle.schedule_player.specs.Bank.{BankOf}
 use Rattle.schedule_player.specs.OneBased.{Every}
 use Rattle.schedule_player.specs.ReplicaMoves.{NodeOf}
-use Rattle.schedule_player.specs.inner.MachineView.{stages_of, slot_length, ops_of}
+use Rattle.schedule_player.specs.MachineView.{stages_of, slot_length, ops_of}
 use Rattle.schedule_player.specs.World.{may_take_memory}
 use Rattle.schedule_player.specs.declared.fault.StepFault.{StepFault}
 use Rattle.schedule_player.specs.declared.node.Node.{Node}
@@ -34,20 +35,6 @@ machine_node node = record {
   outbound = node.outbound;
   states = map stated_reply_count node.states;
 }
-
--- what is stored is this checkpoint, as a mark puts it: in the second layout, with the bank's
--- opening total. If nothing is stored, it is the opening
-abbrev pub IsStoredBytes : BankOf → Option (List ℕ) → CheckpointOf → Type 0
-IsStoredBytes bank None checkpoint = checkpoint ≡ record { columns = bank.opening; replies = [] }
-IsStoredBytes bank (Some bytes) checkpoint = SpellsInLayout Second (opening_total bank) checkpoint bytes
-    × (length checkpoint.columns.savings ≡ length bank.names)
-
--- what is stored, or the opening if nothing is, has what the log up to its length leaves and
--- replies
-pub record IsStoredOfLog (bank : BankOf) (slot : Option (List ℕ)) : Type 0 where
-  pub checkpoint : CheckpointOf
-  pub stored : IsStoredBytes bank slot checkpoint
-  pub consistent : IsCheckpointOfLog (contents_of bank.opening) (ops_of bank) checkpoint
 
 -- the bytes are a state of the bank: a replica of it could have stored them
 abbrev pub IsStateOfLog : BankOf → List ℕ → Type 0

@@ -1,7 +1,7 @@
 use Rattle.std.proofs.Common.{subst}
 use Rattle.std.specs.Prelude.{IfSome}
 use Rattle.std.specs.Result.{result_ok}
-use Rattle.bank_server.specs.inner.FollowerTurns.{RunsAll}
+use Rattle.bank_server.specs.FollowerTurns.{RunsAll}
 use Rattle.bank_server.proofs.FollowerTurns.{runs_all}
 use Rattle.bank_server.proofs.follower.carry_out_all.Goals as goal
 

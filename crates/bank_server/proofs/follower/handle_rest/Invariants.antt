@@ -1,5 +1,5 @@
 use Rattle.std.proofs.Common.{List}
-use Rattle.bank_server.specs.inner.FollowerTurns.{TakesTurns, Turn}
+use Rattle.bank_server.specs.FollowerTurns.{TakesTurns, Turn}
 use Rattle.bank_server.proofs.follower.handle_rest.Given as goal
 
 -- turns were taken

@@ -1,7 +1,7 @@
 use Rattle.std.proofs.Common.{◌≡◌, ◌+◌, ◌<◌, [], ◌∷◌, ◌++◌, length, map, drop, refl, sym, ap, subst, ◌∙◌, arith, append-nil, append_assoc, length-append}
 use Rattle.std.proofs.lemmas.List.{drop_all}
 use Rattle.schedule_player.specs.OneBased.{Every}
-use Rattle.schedule_player.specs.inner.MachineView.{frame_in, IsFrameBytes}
+use Rattle.schedule_player.specs.inner.FrameBytes.{frame_in, IsFrameBytes}
 use Rattle.schedule_player.proofs.Lists.{every_push, get_here, drop_one}
 use Rattle.schedule_player.proofs.SentFrames.{frame_sent}
 use Rattle.schedule_player.proofs.frames.push_all.Goals as goal

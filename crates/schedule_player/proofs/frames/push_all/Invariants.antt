@@ -1,7 +1,7 @@
 use Rattle.std.proofs.Common.{◌≡◌, ◌≤◌, ◌+◌, ◌++◌, length, map, drop}
 use Rattle.std.specs.Prelude.{vec_capacity}
 use Rattle.schedule_player.specs.OneBased.{Every}
-use Rattle.schedule_player.specs.inner.MachineView.{frame_in, IsFrameBytes}
+use Rattle.schedule_player.specs.inner.FrameBytes.{frame_in, IsFrameBytes}
 use Rattle.schedule_player.proofs.frames.push_all.Given as goal
 
 -- what was appended and what is left to append are all, and there is room for the rest

@@ -1,6 +1,6 @@
 use Rattle.std.proofs.Common.{◌∷◌, [], ◌++◌, sym, ap, subst, ◌∙◌, map}
 use Rattle.schedule_player.specs.OneBased.{Every}
-use Rattle.schedule_player.specs.inner.MachineView.{frame_in, IsFrameBytes}
+use Rattle.schedule_player.specs.inner.FrameBytes.{frame_in, IsFrameBytes}
 use Rattle.schedule_player.proofs.Lists.{every_push}
 use Rattle.schedule_player.proofs.SentFrames.{frame_sent}
 use Rattle.schedule_player.proofs.frames.Frames.send.Goals as goal

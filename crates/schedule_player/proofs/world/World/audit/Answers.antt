@@ -9,7 +9,7 @@ use Rattle.schedule_player.specs.Bank.{opening_rows}
 use Rattle.schedule_player.specs.Books.{IsRowsAt}
 use Rattle.schedule_player.specs.inner.NodeInvariant.{machine_node}
 use Rattle.schedule_player.specs.ReplicaMoves.{NodeOf}
-use Rattle.schedule_player.specs.inner.MachineView.{ops_of}
+use Rattle.schedule_player.specs.MachineView.{ops_of}
 use Rattle.schedule_player.specs.World.{audit_if, bank_of, audit_result, may_take_memory}
 use Rattle.schedule_player.proofs.Books.{idle_rows, same_rows, idle_replies, length_replies}
 use Rattle.schedule_player.proofs.AuditResults.{LookedUp, looked_up, seen_as, busy_first, busy_second, apart, same_length, adds_books}

@@ -2,12 +2,11 @@
 use Rattle.std.specs.Prelude.{◌≡◌, ℕ, suc, ◌+◌, ◌≤◌, ℤ, Option, Some, List, ◌++◌, length, slice_get}
 use Rattle.sb_calls.specs.Behaviour.{declared_cowns, effect_of}
 use Rattle.sb_calls.specs.Cowns.{contents_of}
-use Rattle.sb_calls.specs.SerialRun.{inputs_of, contents_after, contents_after_first, reply_by_log}
+use Rattle.sb_calls.specs.SerialRun.{contents_after, contents_after_first, reply_by_log}
 use Rattle.sb_calls.specs.declared.op.Op.{Op}
 use Rattle.sb_calls.specs.declared.reply.Reply.{Reply}
 use Rattle.sb_checkpoint.specs.Checkpoint.{CheckpointOf}
 use Rattle.cown_board.specs.Board.{BoardOf, length_of}
-use Rattle.cown_board.specs.Job.{JobOf}
 use Rattle.cown_board.specs.declared.state.State.TheVariants.{Finished}
 
 -- given what the cowns contained at the opening, and all ops of the log
@@ -31,15 +30,6 @@ module _ (opening : List ℤ) (log : List Op) where
         → reply_by_log declared_cowns effect_of opening log (suc (length before + k)) ≡ Some reply
     pub cut : (number : ℕ) → board.cut ≡ Some number
         → (length board.base_replies ≤ number) × (number ≤ length_of board)
-
-  -- the job is of an op of the log, with the inputs that the log before that op leaves
-  pub record IsJobOfLog (job : JobOf Op) : Type 0 where
-    pub place : ℕ
-    pub number : job.number ≡ suc place
-    pub behaviour : slice_get log place ≡ Some job.behaviour
-    pub inputs : job.inputs
-        ≡ inputs_of declared_cowns effect_of
-        (contents_after_first declared_cowns effect_of opening log place) job.behaviour
 
   -- the checkpoint has what the log up to its length leaves and replies
   pub record IsCheckpointOfLog (checkpoint : CheckpointOf) : Type 0 where

@@ -1,31 +1,13 @@
 -- What the machine sees of what the code holds.
-use Rattle.std.specs.Prelude.{ℕ, Option, Some, None, Result, Ok, Err, List, ◌++◌, length, map, replicate}
+use Rattle.std.specs.Prelude.{ℕ, Option, Some, None, List, ◌++◌, length, map, replicate}
 use Rattle.sb_calls.specs.Op.{op_of}
 use Rattle.sb_calls.specs.declared.op.Op.{Op}
 use Rattle.cown_board.specs.Board.{BoardOf}
 use Rattle.cown_board.specs.declared.state.State.{State}
 use Rattle.cown_board.specs.declared.state.State.TheVariants.{Waiting, Out, Finished}
 use Rattle.sb_checkpoint.specs.Reading.{stated_reply_count}
-use Rattle.sb_frames.specs.Decoding.{decode_result}
-use Rattle.sb_frames.specs.Grammar.{Spells}
-use Rattle.sb_frames.specs.declared.fault.FrameFault.{FrameFault}
-use Rattle.sb_frames.specs.declared.frame.Frame.{Frame}
-use Rattle.sb_frames.specs.declared.frame.Frame.TheVariants as frame
 use Rattle.schedule_player.specs.Bank.{BankOf}
 use Rattle.schedule_player.specs.Stage.{Stage, Waits, IsOut, IsDone}
-
--- the frame that the bytes begin with, or a frame that says nothing if they begin with none
-abbrev pub frame_or_flush : Result (Frame × ℕ) FrameFault → Frame
-frame_or_flush (Ok found) = found.0
-frame_or_flush (Err fault) = frame.Flush
-
-unfoldable pub frame_in : List ℕ → Frame
-frame_in bytes = frame_or_flush (decode_result bytes)
-
--- the bytes spell a frame
-pub record IsFrameBytes (bytes : List ℕ) : Type 0 where
-  pub frame : Frame
-  pub spelled : Spells frame bytes
 
 -- ---- the stages of a board's entries
 
