@@ -2,6 +2,7 @@ pub mod BankAfter
 pub mod EndRows
 pub mod FollowerEvents
 pub mod FollowerMessages
+pub mod FollowerOpenings
 pub mod FollowerTurns
 pub mod FoundBanks
 pub mod FramesHandedOut

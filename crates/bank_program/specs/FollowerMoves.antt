@@ -13,10 +13,11 @@ use Rattle.sb_replica.specs.Replica.{ReplicaOf}
 use Rattle.sb_replica.specs.Streams.{HandsOutAll}
 use Rattle.cown_board.specs.Board.{length_of}
 use Rattle.cown_workers.specs.Draining.{HasNoneOut}
+use Rattle.bank_server.specs.Followers.{IsAtOpening}
 use Rattle.bank_server.specs.FollowerTurns.{FollowerOf, HandlesMessage, Turn, TakesTurns}
 use Rattle.schedule_player.specs.Bank.{BankOf}
 use Rattle.schedule_player.specs.FramesOfLog.{IsEntryOf}
-use Rattle.schedule_player.specs.ReplicaMoves.{NodeOf, frame_move, take_move, finish_move}
+use Rattle.schedule_player.specs.ReplicaMoves.{NodeOf, opened_node, frame_move, take_move, finish_move}
 use Rattle.schedule_player.specs.MachineView.{stages_of, slot_length, ops_of}
 use Rattle.schedule_player.specs.StoredOfLog.{IsStoredOfLog}
 use Rattle.schedule_player.specs.ReplicaOfLog.{IsBoardOfLog, AreHeldOfLog}
@@ -83,6 +84,16 @@ pub record HandsOutTheLog (bank : BankOf) (stream : StreamState) : Type 0 where
   pub bytes : AreBytes stream.unread
   pub frames : (frames : List Frame) (rest : StreamState) → HandsOutAll stream frames rest
       → All (IsSentToFollowers bank) frames
+
+-- ---- the law of openings
+
+-- a replica at the opening, which has stored nothing, is a follower of each bank with this opening.
+-- It is the machine's replica at the opening, with one worker
+abbrev pub FollowersOpen : Type 0
+FollowersOpen = (bank : BankOf) (replica : ReplicaOf MemoryStoreOf) → SameCustomers bank.names bank.opening
+    → length bank.calls ≤ LOG_CALLS → IsAtOpening bank.names bank.opening replica → replica.store.slot ≡ None
+    → IsFollowerOf bank replica
+    × ((inbound : List Frame) → follower_node inbound replica ≡ record (opened_node 1) { inbound = inbound })
 
 -- ---- the law of turns
 

@@ -1,6 +1,12 @@
 //! From the reference machine to a follower's thread.
 ghost use Rattle.bank_program.specs.FollowerEvents.{MessagesAreEvents};
-ghost use Rattle.bank_program.specs.FollowerMoves.{FollowersMove, MessagesMove};
+ghost use Rattle.bank_program.specs.FollowerMoves.{FollowersMove, FollowersOpen, MessagesMove};
+
+/// A replica at the opening of a bank, which has stored nothing, is one of that bank. It is the
+/// replica of the reference machine at the opening, with one worker.
+pub fn followers_open()
+    ensures { FollowersOpen }
+{}
 
 /// The turns of a follower that is one of the bank, and is sent its log, are moves of the reference
 /// machine: frames come, and its one worker takes and finishes. The machine hears exactly the frames

@@ -35,7 +35,7 @@ mod words;
 pub use client_stream::ClientStream;
 pub use fault::ProgramFault;
 pub use found_bank::{FoundBank, find_bank};
-pub use laws::{followers_move, messages_are_events, messages_move};
+pub use laws::{followers_move, followers_open, messages_are_events, messages_move};
 pub use list_fault::ListFault;
 pub use listener::{ClientListener, SocketListener};
 pub use listening::listen;
