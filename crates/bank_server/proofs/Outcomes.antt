@@ -18,9 +18,6 @@ use Rattle.bank_server.specs.Standing.{numbered_standing, same_call, standing_at
 use Rattle.bank_server.specs.declared.asking.Standing.{Standing}
 use Rattle.bank_server.specs.declared.asking.Standing.TheVariants.{Number, Mismatch, LogFull}
 
-some_is : {A : Type 0} {x y : A} → ◌≡◌ {A = Option A} (Some x) (Some y) → x ≡ y
-some_is h = cc
-
 number_is : {m n : ℕ} → Number m ≡ Number n → m ≡ n
 number_is h = cc
 
