@@ -11,4 +11,4 @@ IsOfAClient NetworkUnreachable = Unit {0}
 IsOfAClient NetworkDown = Unit {0}
 IsOfAClient TimedOut = Unit {0}
 IsOfAClient Interrupted = Unit {0}
-IsOfAClient other = ⊥
+IsOfAClient kind = ⊥
