@@ -35,7 +35,7 @@ and B are replicas, from 0, W is a worker, and K the position of what was sent, 
 Writes a note for each event, and then the length, the rows and the total of each replica.";
 
 const PLAY_EXAMPLE: &str = "Example:
-  printf 'nodes 1 workers 1\nann 1.00 0.00\nbegin\nask 7 1 balance ann\nsend 0 1\nto 0 1\n' | smallbank play
+  printf 'nodes 1 workers 1\\nann 1.00 0.00\\nbegin\\nask 7 1 balance ann\\nsend 0 1\\nto 0 1\\n' | smallbank play
 prints
   new 1
   sent 1
