@@ -27,9 +27,9 @@ pub fn told(fault: ProgramFault) -> Report
     ensures status { result.status ≡ exit_status fault }
     ensures fault { result.fault ≡ fault }
 {
-    let status = match fault {
+    let status = match &fault {
         ProgramFault::Run(fault) | ProgramFault::Serve(ServeFault::Run(fault)) => run_status(fault),
-        ProgramFault::Log(fault) => list_status(fault),
+        ProgramFault::Log(fault) => list_status(*fault),
         ProgramFault::Play(ScheduleFault::Input { .. }) => 1,
         ProgramFault::Play(ScheduleFault::Device | ScheduleFault::OutOfMemory)
         | ProgramFault::Serve(
@@ -57,8 +57,8 @@ fn list_status(fault: ListFault) -> u8
 }
 
 // The status of a run's fault, which ends the serving of a bank too.
-fn run_status(fault: RunFault) -> u8
-    ensures { result ≡ spec.run_status fault }
+fn run_status(fault: &RunFault) -> u8
+    ensures { result ≡ spec.run_status fault.now }
 {
     match fault {
         RunFault::Input { .. } => 1,
