@@ -178,31 +178,70 @@ fn nobody_else_is_let_in(rt: HostRuntime) {
     );
 }
 
+// A bank of two sessions that saves.
+const SAVING: Plan = Plan {
+    sessions: 2,
+    clients: None,
+    nodes: 1,
+    workers: 0,
+    saves: true,
+    patience: None,
+};
+
+// What it prints if its first session can't be saved.
+const LISTENING: &str = "listening 127.0.0.1:4000\n";
+
 #[test]
-fn stores_that_fail(rt: HostRuntime) {
-    let alloc = rt.alloc();
+fn a_store_that_forgets(rt: HostRuntime) {
     let clients = [plain(ASKED), plain(b"")];
-    let plan = Plan {
-        sessions: 2,
-        clients: None,
-        nodes: 1,
-        workers: 0,
-        saves: true,
-        patience: None,
-    };
-    let printed = "listening 127.0.0.1:4000\n";
-    let ends = Err(ServeFault::ReadBack);
-    expect(&rt, alloc, &clients, Forgetful, plan, ends, printed, TOLD);
-    // Nobody is notified of the end before the session's asks are saved.
+    expect(
+        &rt,
+        rt.alloc(),
+        &clients,
+        Forgetful,
+        SAVING,
+        Err(ServeFault::ReadBack),
+        LISTENING,
+        TOLD,
+    );
+}
+
+// Nobody is notified of the end before the session's asks are saved.
+#[test]
+fn a_store_that_forgets_asks_before_a_fault(rt: HostRuntime) {
+    let alloc = rt.alloc();
     let mut sent = Vec::from_slice(alloc, ASKED).expect(&rt, "memory");
     sent.extend_from_slice(GARBAGE).expect(&rt, "memory");
     let clients = [plain(&sent), plain(b"")];
-    let hung_up = expect(&rt, alloc, &clients, Forgetful, plan, ends, printed, TOLD);
+    let hung_up = expect(
+        &rt,
+        alloc,
+        &clients,
+        Forgetful,
+        SAVING,
+        Err(ServeFault::ReadBack),
+        LISTENING,
+        TOLD,
+    );
     assert!(&rt; hung_up == 0);
+}
+
+#[test]
+fn a_store_that_fails(rt: HostRuntime) {
+    let alloc = rt.alloc();
+    let clients = [plain(ASKED), plain(b"")];
     let mut store = MemoryStore::new(alloc);
     store.tell(How::New);
-    let ends = Err(ServeFault::Run(RunFault::Device));
-    expect(&rt, alloc, &clients, store, plan, ends, printed, TOLD);
+    expect(
+        &rt,
+        alloc,
+        &clients,
+        store,
+        SAVING,
+        Err(ServeFault::Run(RunFault::Device)),
+        LISTENING,
+        TOLD,
+    );
 }
 
 // A bank with this opening.

@@ -15,45 +15,42 @@ pub(crate) fn expect_text(rt: &impl Abort, alloc: Global, fault: &impl fmt::Disp
     expect_bytes(rt, shown.as_bytes(), text.as_bytes(), text);
 }
 
-const OF_RUNS: &[(RunFault, u8, &str)] = &[
-    (
-        RunFault::Strayed(7, StrayReason::NoThread),
-        2,
-        "node 7 strayed",
-    ),
-    (RunFault::CrewGone, 3, "crew gone"),
-    (RunFault::Device, 4, "device"),
-    (RunFault::OutOfMemory, 5, "out of memory"),
-];
-
 #[test]
 fn faults_of_runs(rt: HostRuntime) {
-    for (fault, number, text) in OF_RUNS {
-        expect_text(&rt, rt.alloc(), fault, text);
-        expect(&rt, fault.number() == *number, text);
+    let input = RunFault::Input {
+        line: 1,
+        fault: InputFault::Call(CallFault::BadName),
+    };
+    for (fault, number, text) in [
+        (input, 1, "line 1: bad name"),
+        (
+            RunFault::Strayed(7, StrayReason::NoThread),
+            2,
+            "node 7 strayed",
+        ),
+        (RunFault::CrewGone, 3, "crew gone"),
+        (RunFault::Device, 4, "device"),
+        (RunFault::OutOfMemory, 5, "out of memory"),
+    ] {
+        expect_text(&rt, rt.alloc(), &fault, text);
+        expect(&rt, fault.number() == number, text);
     }
-    let fault = InputFault::Call(CallFault::BadName);
-    let number = RunFault::Input { line: 1, fault }.number();
-    expect(&rt, number == 1, "a call's fault");
 }
-
-const OF_FOLLOWERS: &[(StrayReason, &str)] = &[
-    (StrayReason::NoThread, "no thread"),
-    (StrayReason::OutOfMemory, "out of memory"),
-    (StrayReason::Frame, "bad frame"),
-    (StrayReason::Unfinished, "unfinished"),
-    (StrayReason::Entry(17), "differs at entry 17"),
-    (StrayReason::Customers, "differs in its customers"),
-];
 
 #[test]
 fn reasons_of_followers(rt: HostRuntime) {
-    for (reason, text) in OF_FOLLOWERS {
-        expect_text(&rt, rt.alloc(), reason, text);
-    }
     let name = Name::new(b"carol_7").expect(&rt, "a name");
-    let text = "differs at customer carol_7";
-    expect_text(&rt, rt.alloc(), &StrayReason::Customer(name), text);
+    for (reason, text) in [
+        (StrayReason::NoThread, "no thread"),
+        (StrayReason::OutOfMemory, "out of memory"),
+        (StrayReason::Frame, "bad frame"),
+        (StrayReason::Unfinished, "unfinished"),
+        (StrayReason::Entry(17), "differs at entry 17"),
+        (StrayReason::Customers, "differs in its customers"),
+        (StrayReason::Customer(name), "differs at customer carol_7"),
+    ] {
+        expect_text(&rt, rt.alloc(), &reason, text);
+    }
 }
 
 const OF_SESSIONS: &[(SessionFault, &str)] = &[
