@@ -1,4 +1,7 @@
 //! Followers of a bank that is served.
+ghost use Rattle.std.specs.Prelude.{◌≡◌, ◌≤◌, ◌<◌, ◌+◌};
+ghost use Rattle.sb_sequencer.specs.declared.sequencer.TheConstants.{REPLICAS};
+
 use crate::bank::{OPENING, OTHER_OPENING, expect, opened, opened_at};
 use crate::wire::{BALANCE, DEPOSIT, DONE, FLUSH, SHOWN, serve};
 use bank_server::{Followers, Primary, ReadyFollowers, RunFault, StrayReason, with_followers};
@@ -132,16 +135,25 @@ fn opened_otherwise(rt: HostRuntime) {
     expect_strayed(&rt, rt.alloc(), OTHER_OPENING, SentLog::All, &bob);
 }
 
+// Adds a follower that begins with this opening.
+fn add_follower(rt: &impl Abort, alloc: Global, ready: &mut ReadyFollowers, opening: &[u8])
+    requires some { 1 ≤ ready.old.nodes }
+    requires limit { ready.old.nodes < REPLICAS }
+    ensures { ready.new.nodes ≡ ready.old.nodes + 1 }
+{
+    let node = opened_at(rt, alloc, opening, MemoryStore::new(alloc));
+    ready.add(alloc, node.node(), 0).expect(rt, "a follower");
+}
+
 // Three followers, of which only the second began otherwise: each is sent the log, and each is
 // compared.
 #[test]
 fn only_the_second_strays(rt: HostRuntime) {
     let alloc = rt.alloc();
     let mut ready = ReadyFollowers::new(alloc);
-    for opening in [OPENING, OTHER_OPENING, OPENING] {
-        let node = opened_at(&rt, alloc, opening, MemoryStore::new(alloc));
-        assert!(&rt; ready.add(alloc, node.node(), 0).is_ok());
-    }
+    add_follower(&rt, alloc, &mut ready, OPENING);
+    add_follower(&rt, alloc, &mut ready, OTHER_OPENING);
+    add_follower(&rt, alloc, &mut ready, OPENING);
     let bob = StrayReason::Customer(Name::new(b"bob").expect(&rt, "a name"));
     let wanted = Err(RunFault::Strayed(2, bob));
     expect_ready(&rt, alloc, ready, SentLog::All, wanted);
