@@ -14,9 +14,9 @@ use thiserror::Error;
 /// Why a case goes wrong. For `OutOfMemory`, a call that was repeated was refused memory again.
 #[derive(Clone, Copy, Debug, Error)]
 pub enum CaseFault {
-    /// A run ends without its output.
-    #[error(transparent)]
-    Run(#[from] RunFault),
+    /// A run ends without its output, with the fault of this number.
+    #[error("run fault {0}")]
+    Run(u8),
     /// An opening isn't read.
     #[error(transparent)]
     Opening(#[from] OpeningFault),
@@ -44,6 +44,12 @@ pub enum CaseFault {
     /// Memory was refused.
     #[error("out of memory")]
     OutOfMemory(#[from(alloc)] AllocError),
+}
+
+impl From<RunFault> for CaseFault {
+    fn from(fault: RunFault) -> CaseFault {
+        CaseFault::Run(fault.number())
+    }
 }
 
 /// Why nothing is reported.
