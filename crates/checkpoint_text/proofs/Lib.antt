@@ -1,0 +1,6 @@
+pub mod OpeningLines
+pub mod OpeningListings
+pub mod PlaceLines
+pub mod StatedFaults
+pub mod StatedOpenings
+pub mod StatedSpellings

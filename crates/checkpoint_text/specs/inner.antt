@@ -1,0 +1,3 @@
+pub mod AddedLines
+pub mod FaultConversions
+pub mod StatedCheckpoint

@@ -1,0 +1,14 @@
+//! A checkpoint printed as text: its balances, or an opening that a run takes.
+#![tactic(auto)]
+
+mod fault;
+mod fields;
+mod laws;
+mod lines;
+mod listing;
+#[cfg(test)]
+mod tests;
+
+pub use fault::CheckpointListFault;
+pub use laws::faultless_if_spelled;
+pub use listing::{CheckpointListing, list_as_opening, list_checkpoint};
