@@ -1,0 +1,5 @@
+-- Definitions that no public contract uses.
+pub mod BatchNumbers
+pub mod Progress
+pub mod Reading
+pub mod Telling
