@@ -1,69 +1,58 @@
 -- What the words after the subcommand say is what all words say.
-use Rattle.std.proofs.Common.{◌≡◌, ℕ, string_bytes, ◌≤◌, ◌-◌, ◌∷◌, [], List, String, Option, Some, None, IfSome, arith, length, length-drop, take, drop, subst}
+use Rattle.std.proofs.Common.{◌≡◌, ℕ, ◌≤◌, ◌-◌, ◌∷◌, [], List, String, arith, length, length-drop, take, drop, subst, map, string_bytes}
 use Rattle.std.proofs.lemmas.List.{take_all}
 use Rattle.std.specs.Prelude.{codes}
-use Rattle.bank_program.specs.inner.WordValues.{IsLogWordsOf, IsReadOf, IsRunOf, IsServeOf}
-use Rattle.bank_program.specs.declared.words.Words.{Words}
-use Rattle.bank_program.specs.declared.words.Words.TheVariants.{Run, Play, Serve, Log}
+use Rattle.bank_program.specs.Words.{GivesAsk, GivesCheckpoint, GivesLog, GivesServe, IsOfOptions, IsSecond}
+use Rattle.bank_program.specs.declared.words.Words.TheVariants.{Run, Serve, Log, Ask, Checkpoint}
+use Rattle.bank_program.specs.declared.words.ask.AskWords.{AskWords}
+use Rattle.bank_program.specs.declared.words.checkpoint.CheckpointWords.{CheckpointWords}
+use Rattle.bank_program.specs.declared.words.log.LogWords.{LogWords}
+use Rattle.bank_program.specs.declared.words.run.RunWords.{RunWords}
+use Rattle.bank_program.specs.declared.words.serve.ServeWords.{ServeWords}
+use Rattle.bank_program.specs.inner.WordValues.{IsAskOf, IsReadOf, IsRunOf, IsServeOf}
 
 module _ {A : Type 0} where
-  -- what all words after the first two say
-  abbrev By : (List (String A) → Words → Type 0) → Option Words → List (String A) → Type 0
-  By IsOf read words = IfSome read (λ r. IsOf (take (length words - 2) (drop 2 words)) r)
+  -- the words behind the second one
+  abbrev pub behind : List (String A) → List (String A)
+  behind words = take (length words - 2) (drop 2 words)
 
-  all_after : (IsOf : List (String A) → Words → Type 0) (read : Option Words) (words : List (String A)) → 2 ≤ length words → By IsOf read words
-      → IfSome read (λ r. IsOf (drop 2 words) r)
-  all_after IsOf read words long said =
-      let all : take (length words - 2) (drop 2 words) ≡ drop 2 words = take_all (length words - 2) (drop 2 words) (omega (arith, length-drop 2 words)) in
-      subst (λ options. IfSome read (λ r. IsOf options r)) all said
+  all_behind : (So : List (String A) → Type 0) (words : List (String A)) → 2 ≤ length words → So (behind words) → So (drop 2 words)
+  all_behind So words long so =
+      let all : behind words ≡ drop 2 words = take_all (length words - 2) (drop 2 words) (omega (arith, length-drop 2 words)) in
+      subst So all so
 
-  -- the word after the program's name
-  abbrev pub IsSecond : List ℕ → List (String A) → Type 0
-  IsSecond word [] = ⊥
-  IsSecond word (name ∷ []) = ⊥
-  IsSecond word (name ∷ program ∷ options) = string_bytes program ≡ word
+  of_drop : (So : List (String A) → Type 0) (word : List ℕ) (words : List (String A)) → IsSecond word words → So (drop 2 words) → IsOfOptions So words
+  of_drop So word [] named so = absurd named
+  of_drop So word (name ∷ []) named so = absurd named
+  of_drop So word (name ∷ second ∷ options) named so = so
 
-  run_says : (read : Option Words) (words : List (String A)) → IsSecond (codes "run") words
-      → IfSome read (λ r. IsRunOf (drop 2 words) r) → IfSome read (λ r. IsReadOf words r)
-  run_says None words named said = tt
-  run_says (Some (Run nodes workers)) [] named said = absurd named
-  run_says (Some (Run nodes workers)) (name ∷ []) named said = absurd named
-  run_says (Some (Run nodes workers)) (name ∷ program ∷ options) named said = (named, said.0, said.1)
-  run_says (Some Play) words named said = absurd said
-  run_says (Some (Serve port plan store log)) words named said = absurd said
-  run_says (Some (Log folder action)) words named said = absurd said
+  of_options : (So : List (String A) → Type 0) (word : List ℕ) (words : List (String A)) → 2 ≤ length words → IsSecond word words → So (behind words)
+      → IsOfOptions So words
+  of_options So word words long named so = of_drop So word words named (all_behind So words long so)
 
-  serve_says : (read : Option Words) (words : List (String A)) → IsSecond (codes "serve") words
-      → IfSome read (λ r. IsServeOf (drop 2 words) r) → IfSome read (λ r. IsReadOf words r)
-  serve_says None words named said = tt
-  serve_says (Some (Run nodes workers)) words named said = absurd said
-  serve_says (Some Play) words named said = absurd said
-  serve_says (Some (Serve port plan store log)) [] named said = absurd named
-  serve_says (Some (Serve port plan store log)) (name ∷ []) named said = absurd named
-  serve_says (Some (Serve port plan store log)) (name ∷ program ∷ options) named said = (named, said.0, said.1)
-  serve_says (Some (Log folder action)) words named said = absurd said
+  run_of_drop : (run : RunWords) (words : List (String A)) → IsSecond (codes "run") words → IsRunOf (drop 2 words) run → IsReadOf words (Run run)
+  run_of_drop run [] named said = absurd named
+  run_of_drop run (name ∷ []) named said = absurd named
+  run_of_drop run (name ∷ second ∷ options) named said = (named, said.0, said.1)
 
-  log_says : (read : Option Words) (words : List (String A)) → IsSecond (codes "log") words
-      → IfSome read (λ r. IsLogWordsOf (drop 2 words) r) → IfSome read (λ r. IsReadOf words r)
-  log_says None words named said = tt
-  log_says (Some (Run nodes workers)) words named said = absurd said
-  log_says (Some Play) words named said = absurd said
-  log_says (Some (Serve port plan store log)) words named said = absurd said
-  log_says (Some (Log folder action)) [] named said = absurd named
-  log_says (Some (Log folder action)) (name ∷ []) named said = absurd named
-  log_says (Some (Log folder action)) (name ∷ program ∷ options) named said = (named, tt, said)
+  pub reads_run : (run : RunWords) (words : List (String A)) → 2 ≤ length words → IsSecond (codes "run") words → IsRunOf (behind words) run
+      → IsReadOf words (Run run)
+  reads_run run words long named said = run_of_drop run words named (all_behind (λ options. IsRunOf options run) words long said)
 
-  -- for all words, those after `run`
-  pub says_of : (read : Option Words) (words : List (String A)) → 2 ≤ length words → IsSecond (codes "run") words
-      → By IsRunOf read words → IfSome read (λ r. IsReadOf words r)
-  says_of read words long named said = run_says read words named (all_after IsRunOf read words long said)
+  pub reads_serve : (serve : ServeWords) (words : List (String A)) → 2 ≤ length words → IsSecond (codes "serve") words → IsServeOf (behind words) serve
+      → IsReadOf words (Serve serve)
+  reads_serve serve words long named said = (named, said.0, of_options (GivesServe serve) (codes "serve") words long named said.1)
 
-  -- for all words, those after `serve`
-  pub says_of_serve : (read : Option Words) (words : List (String A)) → 2 ≤ length words → IsSecond (codes "serve") words
-      → By IsServeOf read words → IfSome read (λ r. IsReadOf words r)
-  says_of_serve read words long named said = serve_says read words named (all_after IsServeOf read words long said)
+  pub reads_log : (log : LogWords) (words : List (String A)) → 2 ≤ length words → IsSecond (codes "log") words
+      → GivesLog log (map string_bytes (behind words)) → IsReadOf words (Log log)
+  reads_log log words long named said =
+      (named, tt, of_options (λ options. GivesLog log (map string_bytes options)) (codes "log") words long named said)
 
-  -- and those after `log`
-  pub says_of_log : (read : Option Words) (words : List (String A)) → 2 ≤ length words → IsSecond (codes "log") words
-      → By IsLogWordsOf read words → IfSome read (λ r. IsReadOf words r)
-  says_of_log read words long named said = log_says read words named (all_after IsLogWordsOf read words long said)
+  pub reads_ask : (ask : AskWords) (words : List (String A)) → 2 ≤ length words → IsSecond (codes "ask") words → IsAskOf (behind words) ask
+      → IsReadOf words (Ask ask)
+  reads_ask ask words long named said = (named, said.0, of_options (GivesAsk ask) (codes "ask") words long named said.1)
+
+  pub reads_checkpoint : (checkpoint : CheckpointWords) (words : List (String A)) → 2 ≤ length words → IsSecond (codes "checkpoint") words
+      → GivesCheckpoint checkpoint (map string_bytes (behind words)) → IsReadOf words (Checkpoint checkpoint)
+  reads_checkpoint checkpoint words long named said =
+      (named, tt, of_options (λ options. GivesCheckpoint checkpoint (map string_bytes options)) (codes "checkpoint") words long named said)

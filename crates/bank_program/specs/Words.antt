@@ -7,27 +7,37 @@ use Rattle.clap.specs.declared.error.kind.ErrorKind.TheVariants.{ValueValidation
 use Rattle.cown_bench.specs.declared.bench.TheConstants.{WORKERS}
 use Rattle.sb_sequencer.specs.declared.sequencer.TheConstants.{REPLICAS}
 use Rattle.bank_program.specs.declared.serving.Plan.{Plan}
-use Rattle.bank_program.specs.declared.words.Words.{Words}
 use Rattle.bank_program.specs.declared.log_listing.Listing.TheVariants.{Asks, Rows, Check}
-use Rattle.bank_program.specs.declared.words.LogAction.{LogAction}
-use Rattle.bank_program.specs.declared.words.LogAction.TheVariants as action
-use Rattle.bank_program.specs.declared.words.Words.TheVariants.{Run, Play, Serve, Log}
+use Rattle.bank_program.specs.declared.words.Words.{Words}
+use Rattle.bank_program.specs.declared.words.Words.TheVariants.{Run, Play, Serve, Log, Ask, Checkpoint}
+use Rattle.bank_program.specs.declared.words.ask.AskWords.{AskWords}
+use Rattle.bank_program.specs.declared.words.checkpoint.CheckpointView.{CheckpointView}
+use Rattle.bank_program.specs.declared.words.checkpoint.CheckpointView.TheVariants as view
+use Rattle.bank_program.specs.declared.words.checkpoint.CheckpointView.TheVariants.{Balances, Opening}
+use Rattle.bank_program.specs.declared.words.checkpoint.CheckpointWords.{CheckpointWords}
+use Rattle.bank_program.specs.declared.words.log.LogAction.{LogAction}
+use Rattle.bank_program.specs.declared.words.log.LogAction.TheVariants as action
+use Rattle.bank_program.specs.declared.words.log.LogWords.{LogWords}
+use Rattle.bank_program.specs.declared.words.run.RunWords.{RunWords}
+use Rattle.bank_program.specs.declared.words.serve.ServeWords.{ServeWords}
 
 module _ {A : Type 0} where
+  -- the second word is this one
+  abbrev pub IsSecond : List ℕ → List (String A) → Type 0
+  IsSecond word [] = ⊥
+  IsSecond word (name ∷ []) = ⊥
+  IsSecond word (name ∷ second ∷ options) = string_bytes second ≡ word
+
   -- the word after the name says which program, and without one it is `run`
   abbrev pub NamesProgram : Words → List (String A) → Type 0
-  NamesProgram (Run nodes workers) [] = Unit {0}
-  NamesProgram (Run nodes workers) (name ∷ []) = Unit {0}
-  NamesProgram (Run nodes workers) (name ∷ program ∷ options) = string_bytes program ≡ codes "run"
-  NamesProgram Play [] = ⊥
-  NamesProgram Play (name ∷ []) = ⊥
-  NamesProgram Play (name ∷ program ∷ options) = string_bytes program ≡ codes "play"
-  NamesProgram (Serve port plan store log) [] = ⊥
-  NamesProgram (Serve port plan store log) (name ∷ []) = ⊥
-  NamesProgram (Serve port plan store log) (name ∷ program ∷ options) = string_bytes program ≡ codes "serve"
-  NamesProgram (Log folder action) [] = ⊥
-  NamesProgram (Log folder action) (name ∷ []) = ⊥
-  NamesProgram (Log folder action) (name ∷ program ∷ options) = string_bytes program ≡ codes "log"
+  NamesProgram (Run run) [] = Unit {0}
+  NamesProgram (Run run) (name ∷ []) = Unit {0}
+  NamesProgram (Run run) (name ∷ second ∷ options) = string_bytes second ≡ codes "run"
+  NamesProgram Play words = IsSecond (codes "play") words
+  NamesProgram (Serve serve) words = IsSecond (codes "serve") words
+  NamesProgram (Log log) words = IsSecond (codes "log") words
+  NamesProgram (Ask ask) words = IsSecond (codes "ask") words
+  NamesProgram (Checkpoint checkpoint) words = IsSecond (codes "checkpoint") words
 
 -- a bank with a log, or with many clients at once, may be served without end
 abbrev pub may_be_endless : Bool → Option ℕ → Bool
@@ -48,13 +58,29 @@ IsPlanInRange logs plan = (1 ≤ plan.sessions)
     × (plan.nodes ≤ REPLICAS)
     × (plan.workers ≤ WORKERS) × IfSome plan.patience (λ seconds. (1 ≤ seconds) × (seconds ≤ 86400))
 
--- a run has 1 to REPLICAS nodes and 0 to WORKERS workers; a port is below 2^16; a served bank has a
--- plan in range
+-- a run has 1 to REPLICAS nodes and 0 to WORKERS workers
+abbrev pub IsRunInRange : RunWords → Type 0
+IsRunInRange run = (1 ≤ run.nodes) × (run.nodes ≤ REPLICAS) × (run.workers ≤ WORKERS)
+
+-- a port is below 2^16, and a served bank has a plan in range
+abbrev pub IsServeInRange : ServeWords → Type 0
+IsServeInRange serve = (serve.port ≤ 65535) × IsPlanInRange (is_some serve.log) serve.plan
+
+-- a client asks at a port from 1 on, has a number from 1 on, if it has one, and sends 1 to 10,000 requests
+-- at a time; these numbers of clients and requests are below 2^32
+abbrev pub IsAskInRange : AskWords → Type 0
+IsAskInRange ask = (1 ≤ ask.port) × (ask.port ≤ 65535)
+    × IfSome ask.client (λ client. (1 ≤ client) × (client ≤ 4294967295)) × (ask.from ≤ 4294967295)
+    × (1 ≤ ask.flush) × (ask.flush ≤ 10000)
+
+-- a run, a served bank and a client are in range
 abbrev pub InRange : Words → Type 0
-InRange (Run nodes workers) = (1 ≤ nodes) × (nodes ≤ REPLICAS) × (workers ≤ WORKERS)
+InRange (Run run) = IsRunInRange run
 InRange Play = Unit {0}
-InRange (Serve port plan store log) = (port ≤ 65535) × IsPlanInRange (is_some log) plan
-InRange (Log folder action) = Unit {0}
+InRange (Serve serve) = IsServeInRange serve
+InRange (Log log) = Unit {0}
+InRange (Ask ask) = IsAskInRange ask
+InRange (Checkpoint checkpoint) = Unit {0}
 
 -- the words are wrong, or memory was refused
 abbrev pub IsRefusal : ErrorKind → Type 0
@@ -96,17 +122,32 @@ abbrev pub HasIntegerOrDefault : List ℕ → ℕ → ℕ → List (List ℕ) �
 HasIntegerOrDefault option standard number words = HasInteger option number words
     ⊎ ((number ≡ standard) × ((text : List ℕ) → ¬ (HasValue option text words)))
 
--- the flag that has this done with a log
-abbrev pub IsFlagOf : List ℕ → LogAction → Type 0
-IsFlagOf flag (action.List Asks) = ⊥
-IsFlagOf flag (action.List Rows) = flag ≡ codes "--rows"
-IsFlagOf flag (action.List Check) = flag ≡ codes "--check"
-IsFlagOf flag action.Cut = flag ≡ codes "--cut"
+-- these words and the options of a thing, before or behind it
+abbrev pub IsBeside : List ℕ → List (List ℕ) → List (List ℕ) → Type 0
+IsBeside thing options words = (words ≡ thing ∷ options) ⊎ (words ≡ options ++ thing ∷ [])
 
--- a folder alone has its log's asks listed; with a flag before or behind it, that is done
-abbrev pub GivesLog : List ℕ → LogAction → List (List ℕ) → Type 0
-GivesLog folder done words = ((words ≡ folder ∷ []) × (done ≡ action.List Asks))
-    ⊎ ((flag : List ℕ) × IsFlagOf flag done × ((words ≡ folder ∷ flag ∷ []) ⊎ (words ≡ flag ∷ folder ∷ [])))
+-- the flag that has this done with a log, or none if its asks are listed
+abbrev pub flags_of : LogAction → List (List ℕ)
+flags_of (action.List Asks) = []
+flags_of (action.List Rows) = codes "--rows" ∷ []
+flags_of (action.List Check) = codes "--check" ∷ []
+flags_of action.Cut = codes "--cut" ∷ []
+
+-- a log's folder, with a flag before or behind it, or none
+abbrev pub GivesLog : LogWords → List (List ℕ) → Type 0
+GivesLog log words = IsBeside log.folder.now (flags_of log.action) words
+
+-- the option that has this printed of a checkpoint, or none if its balances are printed by their places
+abbrev pub AreOptionsOf : CheckpointView → List (List ℕ) → Type 0
+AreOptionsOf Balances options = options ≡ []
+AreOptionsOf (Opening opening) options = (options ≡ codes "--opening" ∷ opening.now ∷ [])
+    ⊎ (options ≡ (codes "--opening" ++ (61 ∷ opening.now)) ∷ [])
+AreOptionsOf view.Check options = options ≡ codes "--check" ∷ []
+
+-- a checkpoint's file, with an option before or behind it, or none
+abbrev pub GivesCheckpoint : CheckpointWords → List (List ℕ) → Type 0
+GivesCheckpoint checkpoint words = (options : List (List ℕ)) × AreOptionsOf checkpoint.view options
+    × IsBeside checkpoint.file.now options words
 
 module _ {A : Type 0} where
   -- the numbers of nodes and workers that these words give, or the defaults 1 and 0
@@ -125,21 +166,34 @@ module _ {A : Type 0} where
       × MayHaveInteger (codes "--patience") plan.patience (map string_bytes words)
 
   -- the words give this port, this plan with its store's folder, and this log's folder, if any
-  abbrev pub GivesServe : ℕ → Plan → Bor (List ℕ) → Option (Bor (List ℕ)) → List (String A) → Type 0
-  GivesServe port plan store log words = HasInteger (codes "--port") port (map string_bytes words)
-      × GivesPlan (is_some log) plan words × GivesStore plan.saves store.now (map string_bytes words)
-      × MayHaveText (codes "--log") log (map string_bytes words)
+  abbrev pub GivesServe : ServeWords → List (String A) → Type 0
+  GivesServe serve words = HasInteger (codes "--port") serve.port (map string_bytes words)
+      × GivesPlan (is_some serve.log) serve.plan words
+      × GivesStore serve.plan.saves serve.store.now (map string_bytes words)
+      × MayHaveText (codes "--log") serve.log (map string_bytes words)
 
-  -- the words after `run` or `serve` give these values
+  -- the words give this port, and the numbers of the client, if any, of the first request and of those
+  -- that are sent at a time, or the defaults
+  abbrev pub GivesAsk : AskWords → List (String A) → Type 0
+  GivesAsk ask words = HasInteger (codes "--port") ask.port (map string_bytes words)
+      × MayHaveInteger (codes "--client") ask.client (map string_bytes words)
+      × HasIntegerOrDefault (codes "--from") 1 ask.from (map string_bytes words)
+      × HasIntegerOrDefault (codes "--flush") 1000 ask.flush (map string_bytes words)
+
+  -- this is so of the words behind the second one
+  abbrev pub IsOfOptions : (List (String A) → Type 0) → List (String A) → Type 0
+  IsOfOptions So [] = ⊥
+  IsOfOptions So (name ∷ []) = ⊥
+  IsOfOptions So (name ∷ second ∷ options) = So options
+
+  -- the words behind the second one give these values
   abbrev pub GivesValues : Words → List (String A) → Type 0
-  GivesValues (Run nodes workers) [] = (nodes ≡ 1) × (workers ≡ 0)
-  GivesValues (Run nodes workers) (name ∷ []) = (nodes ≡ 1) × (workers ≡ 0)
-  GivesValues (Run nodes workers) (name ∷ program ∷ options) = GivesCounts nodes workers options
+  GivesValues (Run run) [] = (run.nodes ≡ 1) × (run.workers ≡ 0)
+  GivesValues (Run run) (name ∷ []) = (run.nodes ≡ 1) × (run.workers ≡ 0)
+  GivesValues (Run run) (name ∷ second ∷ options) = GivesCounts run.nodes run.workers options
   GivesValues Play words = Unit {0}
-  GivesValues (Serve port plan store log) [] = ⊥
-  GivesValues (Serve port plan store log) (name ∷ []) = ⊥
-  GivesValues (Serve port plan store log) (name ∷ program ∷ options) =
-      GivesServe port plan store log options
-  GivesValues (Log folder action) [] = ⊥
-  GivesValues (Log folder action) (name ∷ []) = ⊥
-  GivesValues (Log folder action) (name ∷ program ∷ options) = GivesLog folder.now action (map string_bytes options)
+  GivesValues (Serve serve) words = IsOfOptions (GivesServe serve) words
+  GivesValues (Log log) words = IsOfOptions (λ options. GivesLog log (map string_bytes options)) words
+  GivesValues (Ask ask) words = IsOfOptions (GivesAsk ask) words
+  GivesValues (Checkpoint checkpoint) words =
+      IsOfOptions (λ options. GivesCheckpoint checkpoint (map string_bytes options)) words

@@ -1,24 +1,35 @@
 //! The program's words.
-ghost use Rattle.std.specs.Prelude.{◌≡◌, IfErr, IfOk, IfSome, true, map, string_bytes};
+ghost use Rattle.std.specs.Prelude.{◌≡◌, IfErr, IfOk, IfSome};
 ghost use Rattle.clap.specs.Values.{kind_of};
-ghost use Rattle.bank_program.specs.Words.{GivesStore, InRange, IsFlagOf, IsPlanInRange, IsRefusal, NamesProgram, GivesValues, may_be_endless, usual_sessions};
-ghost use Rattle.bank_program.specs.inner.WordValues.{SaysLog};
-ghost use Rattle.bank_program.specs.inner.WordValues.{IsLogWordsOf, IsPlanOf, IsReadOf, IsRunOf, IsServeOf};
+ghost use Rattle.bank_program.specs.Words.{InRange, IsRefusal, NamesProgram, GivesValues};
+ghost use Rattle.bank_program.specs.inner.WordValues.{IsReadOf};
+
+mod ask;
+mod checkpoint;
+mod log;
+mod run;
+mod serve;
 
 use crate::command::command;
-use crate::log_listing::Listing;
-use crate::options::{parse_count, parse_number, parse_optional, value};
-use crate::serving::Plan;
+pub use ask::AskWords;
+use ask::ask_words;
+use checkpoint::checkpoint_words;
+pub use checkpoint::{CheckpointView, CheckpointWords};
 use clap::error::ErrorKind;
 use clap::{Command, Error};
-use cown_bench::WORKERS;
-use sb_sequencer::REPLICAS;
+use log::log_words;
+pub use log::{LogAction, LogWords};
+pub use run::RunWords;
+use run::run_words;
+pub use serve::ServeWords;
+use serve::serve_words;
 use std::alloc::{AllocError, Global};
 
 // The text for words that clap takes and `parse_words` doesn't. None are known.
 const UNREAD: &str =
     "these take 1 to 16 nodes, 0 to 16 workers, 1 to 1000 clients at once, 1 to 1000 sessions without \
-    these or a log, 1 to 86400 seconds and a port, as plain numbers, and a log's folder with one flag at most";
+    these or a log, 1 to 86400 seconds, a port and a client's numbers, as plain numbers, and a log's folder or a \
+    checkpoint's file with one flag at most";
 
 const NO_TEXT: &str = "a word isn't UTF-8";
 
@@ -26,45 +37,18 @@ const NO_TEXT: &str = "a word isn't UTF-8";
 #[derive(Clone, Copy, Debug, PartialEq, Eq)]
 pub enum Words<'a> {
     /// Run an opening and calls from standard input.
-    Run {
-        /// How many nodes execute the calls: 1 to 16.
-        nodes: usize,
-        /// How many threads execute node 0's calls: 0 to 16. With 0 it executes them itself.
-        workers: usize,
-    },
+    Run(RunWords),
     /// Play a schedule from standard input.
     Play,
     /// Serve the bank of an opening from standard input.
-    Serve {
-        /// The port where the server listens; 0 is any free one.
-        port: u16,
-        /// How the bank is served.
-        plan: Plan,
-        /// The folder where node 0 keeps its checkpoint, if the plan saves. Else nothing is there.
-        store: &'a str,
-        /// The folder where the log is kept, if it is.
-        log: Option<&'a str>,
-    },
+    Serve(ServeWords<'a>),
     /// List a log, or cut it.
-    Log {
-        /// The folder where the log is kept.
-        folder: &'a str,
-        /// What is done with it.
-        action: LogAction,
-    },
+    Log(LogWords<'a>),
+    /// Ask a bank that is served the calls from standard input.
+    Ask(AskWords),
+    /// Print a checkpoint.
+    Checkpoint(CheckpointWords<'a>),
 }
-
-/// What is done with a log.
-#[derive(Clone, Copy, Debug, PartialEq, Eq)]
-pub enum LogAction {
-    /// It is listed.
-    List(Listing),
-    /// What follows its last whole record is moved to a file beside it.
-    Cut,
-}
-
-// How many sessions a bank that is served without end has: more than any machine can.
-const ENDLESS: usize = usize::MAX;
 
 /// Reads the program's words; the first is its name. Without further words it is `run`.
 ///
@@ -124,168 +108,19 @@ fn parse_words<'a>(words: &'a [String]) -> Option<Words<'a>>
     ensures { IfSome result (λ read. IsReadOf words.entry.now read) }
 {
     let [_, program, ..] = words else {
-        return Some(Words::Run {
+        return Some(Words::Run(RunWords {
             nodes: 1,
             workers: 0,
-        });
+        }));
     };
-    if program.as_str() == "run" {
-        return run(&words[2..]);
-    }
-    if program.as_str() == "play" {
-        return Some(Words::Play);
-    }
-    if program.as_str() == "serve" {
-        return serve(&words[2..]);
-    }
-    if program.as_str() == "log" {
-        return log(&words[2..]);
-    }
-    None
-}
-
-// How a run goes, by the words after `run`.
-fn run<'a>(options: &'a [String]) -> Option<Words<'a>>
-    ensures { IfSome result (λ read. IsRunOf options.entry.now read) }
-{
-    let (Some(nodes), Some(workers)) = (
-        parse_count(options, "--nodes", 1),
-        parse_count(options, "--workers", 0),
-    ) else {
-        return None;
-    };
-    if (1..=REPLICAS).contains(&nodes) && workers <= WORKERS {
-        Some(Words::Run { nodes, workers })
-    } else {
-        None
-    }
-}
-
-// How a bank is served, by the words after `serve`.
-fn serve<'a>(options: &'a [String]) -> Option<Words<'a>>
-    ensures { IfSome result (λ read. IsServeOf options.entry.now read) }
-{
-    let Ok(port) = u16::try_from(parse_number(options, "--port")?) else {
-        return None;
-    };
-    let (saves, store) = store_of(options);
-    let log = value(options, "--log");
-    let plan = plan_of(options, saves, log.is_some())?;
-    Some(Words::Serve {
-        port,
-        plan,
-        store,
-        log,
-    })
-}
-
-// Whether the bank saves, and its store's folder.
-fn store_of<'a>(options: &'a [String]) -> (bool, &'a str)
-    ensures { GivesStore result.0 result.1.now (map string_bytes options.entry.now) }
-{
-    match value(options, "--store") {
-        Some(folder) => (true, folder),
-        None => (false, "."),
-    }
-}
-
-// What is done with a log, by the words after `log`: its folder, and a flag before or behind it, or
-// none.
-fn log<'a>(options: &'a [String]) -> Option<Words<'a>>
-    ensures { IfSome result (λ read. IsLogWordsOf options.entry.now read) }
-{
-    match options {
-        [folder] => Some(log_words(folder, LogAction::List(Listing::Asks))),
-        [first, second] => match (action_of(first), action_of(second)) {
-            (None, Some(action)) => Some(log_words(first, action)),
-            (Some(action), None) => Some(log_words(second, action)),
-            _ => None,
-        },
+    let options = &words[2..];
+    match program.as_str() {
+        "run" => Some(Words::Run(run_words(options)?)),
+        "play" => Some(Words::Play),
+        "serve" => Some(Words::Serve(serve_words(options)?)),
+        "log" => Some(Words::Log(log_words(options)?)),
+        "ask" => Some(Words::Ask(ask_words(options)?)),
+        "checkpoint" => Some(Words::Checkpoint(checkpoint_words(options)?)),
         _ => None,
     }
-}
-
-// These words.
-fn log_words<'a>(folder: &'a String, action: LogAction) -> Words<'a>
-    ensures { SaysLog result (string_bytes folder.entry.now) action }
-{
-    Words::Log {
-        folder: folder.as_str(),
-        action,
-    }
-}
-
-// What a flag has done with a log, if it is one.
-fn action_of(word: &String) -> Option<LogAction>
-    ensures { IfSome result (IsFlagOf (string_bytes word.now)) }
-{
-    match word.as_str() {
-        "--rows" => Some(LogAction::List(Listing::Rows)),
-        "--check" => Some(LogAction::List(Listing::Check)),
-        "--cut" => Some(LogAction::Cut),
-        _ => None,
-    }
-}
-
-// The plan that these words give, for a bank that saves or doesn't, and that keeps a log or doesn't.
-fn plan_of(options: &[String], saves: bool, logs: bool) -> Option<Plan>
-    ensures { IfSome result (λ plan. IsPlanOf options.now saves logs plan) }
-{
-    let clients = parse_optional(options, "--clients")?;
-    let usual = usual_sessions(may_be_endless(logs, clients));
-    let (Some(sessions), Some(nodes), Some(workers), Some(patience)) = (
-        parse_count(options, "--sessions", usual),
-        parse_count(options, "--nodes", 1),
-        parse_count(options, "--workers", 0),
-        parse_optional(options, "--patience"),
-    ) else {
-        return None;
-    };
-    let plan = Plan {
-        sessions,
-        clients,
-        nodes,
-        workers,
-        saves,
-        patience,
-    };
-    if is_in_range(&plan, logs) {
-        Some(plan)
-    } else {
-        None
-    }
-}
-
-// Whether a bank that keeps a log or doesn't, with so many clients at once, may be served without end.
-fn may_be_endless(logs: bool, clients: Option<usize>) -> bool
-    ensures { result ≡ may_be_endless logs clients }
-{
-    logs || clients.is_some()
-}
-
-// How many sessions there are, unless the words say it.
-fn usual_sessions(endless: bool) -> usize
-    ensures { result ≡ usual_sessions endless }
-{
-    if endless { ENDLESS } else { 1 }
-}
-
-// Whether a plan's numbers are within their limits.
-fn is_in_range(plan: &Plan, logs: bool) -> bool
-    ensures { result ≡ true → IsPlanInRange logs plan.now }
-{
-    let is_patient = match plan.patience {
-        Some(seconds) => (1..=86_400).contains(&seconds),
-        None => true,
-    };
-    let are_few = match plan.clients {
-        Some(count) => (1..=1_000).contains(&count),
-        None => true,
-    };
-    is_patient
-        && are_few
-        && 1 <= plan.sessions
-        && (may_be_endless(logs, plan.clients) || plan.sessions <= 1_000)
-        && (1..=REPLICAS).contains(&plan.nodes)
-        && plan.workers <= WORKERS
 }

@@ -1,13 +1,16 @@
 //! The program's words.
-use bank_program::{Listing, LogAction, Plan, Words, read_words, refuse_bytes};
+use bank_program::{
+    AskWords, CheckpointView, CheckpointWords, Listing, LogAction, LogWords, Plan, RunWords,
+    ServeWords, Words, read_words, refuse_bytes,
+};
 use clap::Error;
 use std::alloc::Global;
 use std::process::Abort;
 
-const USUAL: Words<'static> = Words::Run {
-    nodes: 1,
-    workers: 0,
-};
+// A run with these nodes and workers.
+fn run_of(nodes: usize, workers: usize) -> Words<'static> {
+    Words::Run(RunWords { nodes, workers })
+}
 
 // These words after the program's name.
 fn words_of(rt: &impl Abort, alloc: Global, words: &[&str]) -> Vec<String> {
@@ -50,16 +53,10 @@ fn expect_error(rt: &impl Abort, alloc: Global, error: &Error, status: i32, part
 #[test]
 fn words_of_the_program(rt: HostRuntime) {
     let alloc = rt.alloc();
-    let both = Words::Run {
-        nodes: 16,
-        workers: 16,
-    };
-    let two = Words::Run {
-        nodes: 2,
-        workers: 0,
-    };
-    expect(&rt, alloc, &[], USUAL);
-    expect(&rt, alloc, &["run"], USUAL);
+    let both = run_of(16, 16);
+    let two = run_of(2, 0);
+    expect(&rt, alloc, &[], run_of(1, 0));
+    expect(&rt, alloc, &["run"], run_of(1, 0));
     expect(&rt, alloc, &["run", "--nodes", "16", "--workers=16"], both);
     expect(&rt, alloc, &["run", "--workers", "16", "--nodes=16"], both);
     expect(&rt, alloc, &["run", "--nodes", "2"], two);
@@ -86,55 +83,46 @@ const SERVED_AT_MOST: Plan = Plan {
     patience: Some(86_400),
 };
 
+// A bank that is served so.
+fn served_at<'a>(port: u16, plan: Plan, store: &'a str, log: Option<&'a str>) -> Words<'a> {
+    Words::Serve(ServeWords {
+        port,
+        plan,
+        store,
+        log,
+    })
+}
+
 #[test]
 fn words_of_a_server(rt: HostRuntime) {
     let alloc = rt.alloc();
-    let usual = Words::Serve {
-        port: 0,
-        plan: SERVED_AS_USUAL,
-        store: ".",
-        log: None,
-    };
-    let all = Words::Serve {
-        port: 65_535,
-        plan: SERVED_AT_MOST,
-        store: "a folder",
-        log: None,
-    };
-    let port = ["--port=65535", "--sessions=1000"];
+    let usual = served_at(0, SERVED_AS_USUAL, ".", None);
+    let all = served_at(65_535, SERVED_AT_MOST, "a folder", None);
     expect(&rt, alloc, &["serve", "--port", "0"], usual);
-    expect(
-        &rt,
-        alloc,
-        &[
-            "serve",
-            "--store",
-            "a folder",
-            "--workers",
-            "16",
-            "--nodes",
-            "16",
-            "--patience",
-            "86400",
-            port[0],
-            port[1],
-        ],
-        all,
-    );
-    expect(
-        &rt,
-        alloc,
-        &[
-            "serve",
-            port[1],
-            port[0],
-            "--store=a folder",
-            "--nodes=16",
-            "--workers=16",
-            "--patience=86400",
-        ],
-        all,
-    );
+    let apart = [
+        "serve",
+        "--store",
+        "a folder",
+        "--workers",
+        "16",
+        "--nodes",
+        "16",
+        "--patience",
+        "86400",
+        "--port=65535",
+        "--sessions=1000",
+    ];
+    let joined = [
+        "serve",
+        "--sessions=1000",
+        "--port=65535",
+        "--store=a folder",
+        "--nodes=16",
+        "--workers=16",
+        "--patience=86400",
+    ];
+    expect(&rt, alloc, &apart, all);
+    expect(&rt, alloc, &joined, all);
 }
 
 #[test]
@@ -159,12 +147,7 @@ fn words_of_a_server_of_many_clients(rt: HostRuntime) {
             counted,
         ),
     ] {
-        let read = Words::Serve {
-            port: 0,
-            plan,
-            store: ".",
-            log: None,
-        };
+        let read = served_at(0, plan, ".", None);
         expect(&rt, rt.alloc(), &words, read);
     }
 }
@@ -187,12 +170,7 @@ fn words_of_a_server_with_a_log(rt: HostRuntime) {
             many,
         ),
     ] {
-        let read = Words::Serve {
-            port: 0,
-            plan,
-            store: ".",
-            log: Some("bank"),
-        };
+        let read = served_at(0, plan, ".", Some("bank"));
         expect(&rt, alloc, &words, read);
     }
 }
@@ -201,7 +179,7 @@ fn words_of_a_server_with_a_log(rt: HostRuntime) {
 fn words_of_a_log(rt: HostRuntime) {
     let alloc = rt.alloc();
     let folder = "bank";
-    let of = |action| Words::Log { folder, action };
+    let of = |action| Words::Log(LogWords { folder, action });
     let asks = LogAction::List(Listing::Asks);
     expect(&rt, alloc, &["log", "bank"], of(asks));
     let cases = [
@@ -218,6 +196,89 @@ fn words_of_a_log(rt: HostRuntime) {
         (&["log", "bank", "other"], "other"),
         (&["log", "bank", "--rows", "--check"], "one flag at most"),
         (&["log", "bank", "--all"], "--all"),
+    ];
+    expect_refused(&rt, alloc, &refused);
+}
+
+#[test]
+fn words_of_a_client(rt: HostRuntime) {
+    let usual = AskWords {
+        port: 4_000,
+        client: None,
+        from: 1,
+        flush: 1_000,
+    };
+    let most = AskWords {
+        port: 65_535,
+        client: Some(4_294_967_295),
+        from: 4_294_967_295,
+        flush: 10_000,
+    };
+    expect(
+        &rt,
+        rt.alloc(),
+        &["ask", "--port", "4000"],
+        Words::Ask(usual),
+    );
+    let words = [
+        "ask",
+        "--flush=10000",
+        "--from",
+        "4294967295",
+        "--client=4294967295",
+        "--port",
+        "65535",
+    ];
+    expect(&rt, rt.alloc(), &words, Words::Ask(most));
+}
+
+#[test]
+fn refused_words_of_a_client(rt: HostRuntime) {
+    let cases: [(&[&str], &str); 6] = [
+        (&["ask"], "--port <1..65535>"),
+        (&["ask", "--port", "0"], "0 is not in 1..=65535"),
+        (
+            &["ask", "--port=1", "--client=0"],
+            "0 is not in 1..=4294967295",
+        ),
+        (
+            &["ask", "--port=1", "--from=4294967296"],
+            "4294967296 is not in 0..=4294967295",
+        ),
+        (&["ask", "--port=1", "--flush=0"], "0 is not in 1..=10000"),
+        (&["ask", "--port=1", "calls"], "calls"),
+    ];
+    expect_refused(&rt, rt.alloc(), &cases);
+}
+
+#[test]
+fn words_of_a_checkpoint(rt: HostRuntime) {
+    let alloc = rt.alloc();
+    let file = "node0.ckpt";
+    let of = |view| Words::Checkpoint(CheckpointWords { file, view });
+    let named = of(CheckpointView::Opening("bank.txt"));
+    let whole = of(CheckpointView::Check);
+    let balances = of(CheckpointView::Balances);
+    expect(&rt, alloc, &["checkpoint", "node0.ckpt"], balances);
+    expect(&rt, alloc, &["checkpoint", "node0.ckpt", "--check"], whole);
+    expect(&rt, alloc, &["checkpoint", "--check", "node0.ckpt"], whole);
+    let cases: [&[&str]; 4] = [
+        &["checkpoint", "node0.ckpt", "--opening", "bank.txt"],
+        &["checkpoint", "--opening", "bank.txt", "node0.ckpt"],
+        &["checkpoint", "node0.ckpt", "--opening=bank.txt"],
+        &["checkpoint", "--opening=bank.txt", "node0.ckpt"],
+    ];
+    for words in cases {
+        expect(&rt, alloc, words, named);
+    }
+    let refused: [(&[&str], &str); 4] = [
+        (&["checkpoint"], "<FILE>"),
+        (&["checkpoint", "a", "b"], "b"),
+        (&["checkpoint", "a", "--opening"], "<TEXT>"),
+        (
+            &["checkpoint", "a", "--check", "--opening=b"],
+            "one flag at most",
+        ),
     ];
     expect_refused(&rt, alloc, &refused);
 }
