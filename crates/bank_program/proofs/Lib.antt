@@ -8,6 +8,7 @@ pub mod FoundBanks
 pub mod FramesHandedOut
 pub mod FramesHeard
 pub mod GoneCrews
+pub mod LinesShown
 pub mod OptionSearch
 pub mod OptionValues
 pub mod PrintedLines

@@ -2,6 +2,7 @@ pub mod Faults
 pub mod FollowerEvents
 pub mod FollowerMoves
 pub mod FoundBank
+pub mod LineNotes
 pub mod ListFaults
 pub mod LogListing
 pub mod OpenedBank

@@ -1,4 +1,5 @@
 pub mod FindSteps
+pub mod ListingFaults
 pub mod AtOnceSteps
 pub mod ServeSteps
 pub mod StepFaults

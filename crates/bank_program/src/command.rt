@@ -81,6 +81,37 @@ const LOG_STATUS: &str =
     "Exit status: 0 when done, 1 without a log or after damage (`smallbank: log: FAULT`), 2 if the
 words are refused, and 3 for all else. docs/OPERATING.md says what to do after damage.";
 
+const ASK: &str = "Asks a bank that `serve` serves, at 127.0.0.1.
+
+Reads a call a line from standard input, as `run` does after its `begin`. Sends each under the client's
+number and the next request number, with a flush after those that each read gave, and prints a line
+`REQUEST OUTCOME` for each: a reply as `run` prints it, `mismatch` or `log full`. If the connection
+breaks it makes another one, and asks again from the first request that has no outcome. What is asked
+again is not done again. At the end it waits until the server has ended the session too.";
+
+const ASK_EXAMPLE: &str = "Example:
+  printf 'deposit alice 1.00\\nbalance alice\\n' | smallbank ask --port 4000 --client 7
+prints
+  1 done
+  2 shown 151.00
+
+Exit status: 0 when all was told and the session ended, 1 if a line is no call (`smallbank: line L:
+FAULT`; the lines before it are asked and told), 2 if the words are refused, and 3 for all else: what was
+printed stands, and --client and --from with the first number that wasn't go on from there.";
+
+const CHECKPOINT: &str = "Prints a checkpoint that a server keeps as FOLDER/node0.ckpt.
+
+Prints `checkpoint LENGTH`, the number of calls before it, `customers COUNT`, `total TOTAL`, `opening
+TOTAL` and a line `PLACE SAVINGS CHECKING` for each customer, from place 0, in the opening's order.";
+
+const CHECKPOINT_STATUS: &str = "Example:
+  smallbank checkpoint bank/node0.ckpt --opening opening.txt
+prints the rows by name and `begin`, which is an opening for `run` and `serve`.
+
+Exit status: 0 when done, 1 if it is no checkpoint, or one of another bank than the opening's
+(`smallbank: checkpoint: FAULT`), 2 if the words are refused, and 3 for all else. docs/WIRE.md has
+its bytes and the faults.";
+
 /// The command whose grammar the program's words follow.
 pub(crate) fn command<'a>(alloc: Global) -> Result<Command<'a>, AllocError> {
     let run = run(alloc)?;
@@ -89,7 +120,10 @@ pub(crate) fn command<'a>(alloc: Global) -> Result<Command<'a>, AllocError> {
         .about("A SmallBank store, proved")
         .subcommand(run)?
         .subcommand(play(alloc))?;
-    bank.subcommand(serve(alloc)?)?.subcommand(log(alloc)?)
+    bank.subcommand(serve(alloc)?)?
+        .subcommand(log(alloc)?)?
+        .subcommand(ask(alloc)?)?
+        .subcommand(checkpoint(alloc)?)
 }
 
 // The subcommand that runs calls.
@@ -211,4 +245,49 @@ fn store<'a>(alloc: Global) -> Arg<'a> {
         .long("store")
         .value_name("FOLDER")
         .help("Where the first node saves a checkpoint after each session, as node0.ckpt")
+}
+
+// The subcommand that asks.
+fn ask<'a>(alloc: Global) -> Result<Command<'a>, AllocError> {
+    let args = [
+        number(alloc, "port", "1..65535", 1, 65_535)
+            .required(true)
+            .help("Where the server listens, at 127.0.0.1"),
+        number(alloc, "client", "1..4294967295", 1, 4_294_967_295).help(
+            "The client's number; without it one at random, which is told on standard error",
+        ),
+        number(alloc, "from", "0..4294967295", 0, 4_294_967_295)
+            .default_value("1")
+            .help("The number of the first request; each other has the next one"),
+        number(alloc, "flush", "1..10000", 1, 10_000)
+            .default_value("1000")
+            .help("How many requests are sent before their outcomes are asked for, at most"),
+    ];
+    Command::new(alloc, "ask")
+        .about("Asks a bank that is served")
+        .long_about(ASK)
+        .after_help(ASK_EXAMPLE)
+        .args(Vec::from_array(alloc, args)?)
+}
+
+// The subcommand that prints a checkpoint.
+fn checkpoint<'a>(alloc: Global) -> Result<Command<'a>, AllocError> {
+    let file = Arg::new(alloc, "file")
+        .value_name("FILE")
+        .required(true)
+        .help("Where the checkpoint is");
+    let opening = Arg::new(alloc, "opening")
+        .long("opening")
+        .value_name("TEXT")
+        .help("Prints the rows by the names of the opening in this file instead, as an opening");
+    let args = [
+        opening,
+        flag(alloc, "check").help("Prints its first line alone"),
+    ];
+    Command::new(alloc, "checkpoint")
+        .about("Prints a checkpoint")
+        .long_about(CHECKPOINT)
+        .after_help(CHECKPOINT_STATUS)
+        .arg(file)?
+        .args(Vec::from_array(alloc, args)?)
 }

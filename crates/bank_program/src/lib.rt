@@ -2,13 +2,16 @@
 //! serves.
 #![tactic(auto)]
 
+mod beginning;
 mod client;
 mod client_stream;
 mod command;
+mod device;
 mod fault;
 mod found_bank;
 mod laws;
 mod leaving;
+mod line_notes;
 mod list_fault;
 mod listener;
 mod listening;
@@ -19,6 +22,8 @@ mod opened_bank;
 mod opening;
 mod options;
 mod printing;
+mod program_ask;
+mod program_checkpoint;
 mod program_clients;
 mod program_log;
 mod program_server;
@@ -30,12 +35,17 @@ mod serving_many;
 mod session_end;
 mod socket_writer;
 mod standard_streams;
+mod telling;
+mod trouble;
+mod watch;
 mod words;
 
 pub use client_stream::ClientStream;
+pub use device::Device;
 pub use fault::ProgramFault;
 pub use found_bank::{FoundBank, find_bank};
 pub use laws::{followers_move, followers_open, messages_are_events, messages_move};
+pub use line_notes::{Oddity, line_note, oddity_of};
 pub use list_fault::ListFault;
 pub use listener::{ClientListener, SocketListener};
 pub use listening::listen;
@@ -43,6 +53,8 @@ pub use log_listing::{Listing, list_log};
 pub use many_server::ManyServer;
 pub use opened_bank::open_on_file;
 pub use opening::whole_opening;
+pub use program_ask::ask_program;
+pub use program_checkpoint::checkpoint_program;
 pub use program_log::log_program;
 pub use program_server::serve_program;
 pub use report::{Report, told};
@@ -51,4 +63,11 @@ pub use server::Server;
 pub use serving::{Plan, ServedBank, serve, serve_bank, serve_beside};
 pub use serving_many::serve_many;
 pub use socket_writer::SocketWriter;
-pub use words::{LogAction, Words, read_words, refuse_bytes};
+pub use standard_streams::{input, output};
+pub use telling::tell;
+pub use trouble::{Cause, Trouble};
+pub use watch::Watch;
+pub use words::{
+    AskWords, CheckpointView, CheckpointWords, LogAction, LogWords, RunWords, ServeWords, Words,
+    read_words, refuse_bytes,
+};

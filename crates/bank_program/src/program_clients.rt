@@ -3,11 +3,14 @@ ghost use Rattle.std.specs.Prelude.{◌≡◌, ◌⊎◌, ◌≤◌, ◌<◌, If
 ghost use Rattle.bank_server.specs.Execution.{HasNoEntries};
 ghost use Rattle.bank_program.specs.ServeFaults.{IsPortFault, IsServingFault};
 
+use crate::device::Device;
 use crate::listening::listen_for_many;
 use crate::many_server::ManyServer;
 use crate::serve_fault::ServeFault;
 use crate::serving::Plan;
 use crate::serving_many::serve_many;
+use crate::standard_streams::output;
+use crate::trouble::Trouble;
 use bank_clients::{ClientSockets, Limits, Sessions};
 use bank_server::Primary;
 use cown_bench::WORKERS;
@@ -19,7 +22,7 @@ use std::sync::Wait;
 use std::thread::Threads;
 use std::time::{Clock, Duration};
 
-/// Serves up to this many clients of a bank at once, at a port.
+/// Serves up to this many clients of a bank at once, at a port. An error of the system is noted.
 pub(crate) fn serve_clients_at<H, S, K>(
     rt: &HostRuntime,
     threads: &H,
@@ -27,6 +30,7 @@ pub(crate) fn serve_clients_at<H, S, K>(
     primary: Box<Primary<S, K>>,
     clients: usize,
     plan: Plan,
+    trouble: &Trouble<'_>,
 ) -> Result<(), ServeFault>
 where
     H: Threads + Wait + Clock + Sync + Net,
@@ -46,9 +50,10 @@ where
             .patience
             .map(|seconds| Duration::from_secs(seconds as u64)),
     };
-    let listener = listen_for_many(threads, port)?;
-    let connections = ClientSockets::new(threads, threads, alloc, listener, limits)?;
-    let port = connections.port()?;
+    let listener = listen_for_many(threads, port, trouble)?;
+    let made = ClientSockets::new(threads, threads, alloc, listener, limits);
+    let connections = trouble.noted(Device::Port(port), made)?;
+    let port = trouble.noted(Device::Port(port), connections.port())?;
     let sessions = Sessions::open(alloc, connections, clients)?;
     serve_many(
         threads,
@@ -58,7 +63,7 @@ where
             port,
             sessions,
             primary: Box::into_inner(primary),
-            writer: rt.stdout(),
+            writer: output(rt, trouble),
         },
     )?;
     Ok(())

@@ -4,7 +4,8 @@ ghost use Rattle.std.specs.Prelude.{◌≡◌, ◌≤◌, length, IfErr, IfOk};
 use crate::list_fault::ListFault;
 use crate::log_listing::{Listing, list_log};
 use crate::log_report::LogReport;
-use crate::standard_streams::are_open;
+use crate::standard_streams::{are_open, output};
+use crate::trouble::Trouble;
 use crate::words::LogAction;
 use sb_ask_log::read_asks;
 use sb_log::{LogFault, LogFile, Reason, SystemFile};
@@ -23,12 +24,18 @@ const REST: &str = "log.rest";
 // How many bytes are moved at once.
 const PIECE: usize = 65_536;
 
-/// Lists the log in a folder, or cuts it. A fault of a file is told on standard error.
-pub fn log_program(rt: &HostRuntime, folder: &str, action: LogAction) -> Result<(), ListFault> {
+/// Lists the log in a folder, or cuts it. A fault of a file is told on standard error, and an error of a
+/// standard stream is noted.
+pub fn log_program(
+    rt: &HostRuntime,
+    folder: &str,
+    action: LogAction,
+    trouble: &Trouble<'_>,
+) -> Result<(), ListFault> {
     let reason = Reason::new();
     let done = match action {
-        LogAction::List(listing) => list(rt, folder, listing, &reason),
-        LogAction::Cut => cut(rt, folder, &reason),
+        LogAction::List(listing) => list(rt, folder, listing, &reason, trouble),
+        LogAction::Cut => cut(rt, folder, &reason, trouble),
     };
     let name = match done {
         Err(ListFault::Rest) => REST,
@@ -57,14 +64,30 @@ fn list(
     folder: &str,
     listing: Listing,
     reason: &Reason,
+    trouble: &Trouble<'_>,
 ) -> Result<(), ListFault> {
     let mut file = SystemFile::open_to_read(rt, folder, LOG, reason)?;
-    list_log(rt.alloc(), &mut file, listing, &mut rt.stdout())
+    print_listing(rt, &mut file, listing, trouble)
+}
+
+// Lists a log on standard output.
+fn print_listing<F: LogFile>(
+    rt: &HostRuntime,
+    file: &mut F,
+    listing: Listing,
+    trouble: &Trouble<'_>,
+) -> Result<(), ListFault> {
+    list_log(rt.alloc(), file, listing, &mut output(rt, trouble))
 }
 
 // Moves what follows the last whole record of a log to a file beside it, and prints the log's line.
-fn cut(rt: &HostRuntime, folder: &str, reason: &Reason) -> Result<(), ListFault> {
-    if !are_open(rt) {
+fn cut(
+    rt: &HostRuntime,
+    folder: &str,
+    reason: &Reason,
+    trouble: &Trouble<'_>,
+) -> Result<(), ListFault> {
+    if !are_open(rt, trouble) {
         return Err(ListFault::Device);
     }
     // A log that isn't there isn't made.
@@ -78,7 +101,7 @@ fn cut(rt: &HostRuntime, folder: &str, reason: &Reason) -> Result<(), ListFault>
     if file.cut(end).is_err() || file.sync().is_err() {
         return Err(ListFault::Log(LogFault::Device));
     }
-    list_log(rt.alloc(), &mut file, Listing::Check, &mut rt.stdout())
+    print_listing(rt, &mut file, Listing::Check, trouble)
 }
 
 // Where the whole records of a log end, of which there is one at least.

@@ -1,9 +1,10 @@
 //! The program that serves.
 ghost use Rattle.std.specs.Prelude.{◌≡◌, ◌≤◌, None, false, true, is_some, IfErr, IfOk};
 ghost use Rattle.bank_server.specs.Execution.{HasNoEntries};
-ghost use Rattle.bank_program.specs.ServeFaults.{IsProgramFault};
+ghost use Rattle.bank_program.specs.ServeFaults.{IsPortFault, IsProgramFault};
 ghost use Rattle.bank_program.specs.inner.StepFaults.{IsOpenFault, IsOpeningFault, IsStoreFault};
 
+use crate::device::Device;
 use crate::found_bank::find_bank;
 use crate::listener::SocketListener;
 use crate::listening::listen;
@@ -15,7 +16,9 @@ use crate::program_log::LOG;
 use crate::serve_fault::ServeFault;
 use crate::server::Server;
 use crate::serving::{Plan, serve, serve_bank};
-use crate::standard_streams::are_open;
+use crate::standard_streams::{are_open, input, output};
+use crate::trouble::Trouble;
+use crate::watch::Watch;
 use bank_server::{Primary, RunFault};
 use cown_bench::WORKERS;
 use sb_ask_log::AskLog;
@@ -31,25 +34,30 @@ use std::sync::Wait;
 use std::thread::Threads;
 use std::time::Clock;
 
+// A store in a folder of the system.
+type SystemStore<'t, 'd> = FileStore<Watch<'t, 'd, FolderFile<HostRuntime>>>;
+
 // A bank on a log's file of the system.
-type SystemBank<'a> = Primary<FileStore<FolderFile<HostRuntime>>, AskLog<SystemFile<'a>>>;
+type SystemBank<'t, 'd, 'r> = Primary<SystemStore<'t, 'd>, AskLog<SystemFile<'r>>>;
 
 // The file name of node 0's checkpoint.
 const CHECKPOINT: &str = "node0.ckpt";
 
 /// Serves the bank of the opening in standard input at a port. If the plan saves, node 0 keeps its
 /// checkpoint in the first folder. The log is kept in the second one, if there is one: then standard input
-/// may be empty where the log goes on. A fault of the log's file is told on standard error.
+/// may be empty where the log goes on. A fault of the log's file is told on standard error, and an error
+/// of any other device is noted.
 ///
 /// The server listens only after the whole input was read and checked, the log's folder read, and the
 /// store's folder tried.
-pub fn serve_program<H>(
+pub fn serve_program<'d, H>(
     rt: &HostRuntime,
     threads: &H,
     port: u16,
-    folder: &str,
+    folder: &'d str,
     log: Option<&str>,
     plan: Plan,
+    trouble: &Trouble<'d>,
 ) -> Result<(), ServeFault>
 where
     H: Threads + Wait + Clock + Sync + Net,
@@ -58,21 +66,22 @@ where
     ensures fault { IfErr result (IsProgramFault port plan (is_some log.entry)) }
 {
     if let Some(log) = log {
-        return serve_with_log(rt, threads, port, folder, log, plan);
+        return serve_with_log(rt, threads, port, folder, log, plan, trouble);
     }
-    let opening = read_opening(rt)?;
-    let store = store_of(rt, folder, plan.saves)?;
-    serve_at(rt, threads, port, opening, store, plan)
+    let opening = read_opening(rt, trouble)?;
+    let store = store_of(rt, folder, plan.saves, trouble)?;
+    serve_at(rt, threads, port, opening, store, plan, trouble)
 }
 
 // Serves a bank whose log is kept in this folder.
-fn serve_with_log<H>(
+fn serve_with_log<'d, H>(
     rt: &HostRuntime,
     threads: &H,
     port: u16,
-    folder: &str,
+    folder: &'d str,
     log: &str,
     plan: Plan,
+    trouble: &Trouble<'d>,
 ) -> Result<(), ServeFault>
 where
     H: Threads + Wait + Clock + Sync + Net,
@@ -81,8 +90,8 @@ where
     ensures fault { IfErr result (IsProgramFault port plan true) }
 {
     let reason = Reason::new();
-    let served = match open_on_log(rt, folder, plan.saves, log, &reason) {
-        Ok(opened) => serve_opened(rt, threads, port, opened, plan),
+    let served = match open_on_log(rt, folder, plan.saves, log, &reason, trouble) {
+        Ok(opened) => serve_opened(rt, threads, port, opened, plan, trouble),
         Err(fault) => Err(fault),
     };
     if let Err(ServeFault::Log(fault)) = served {
@@ -99,23 +108,24 @@ where
 }
 
 // Opens a bank on the log in this folder.
-fn open_on_log<'a>(
+fn open_on_log<'t, 'd, 'r>(
     rt: &HostRuntime,
-    folder: &str,
+    folder: &'d str,
     saves: bool,
     log: &str,
-    reason: &'a Reason,
-) -> Result<Box<SystemBank<'a>>, ServeFault>
+    reason: &'r Reason,
+    trouble: &'t Trouble<'d>,
+) -> Result<Box<SystemBank<'t, 'd, 'r>>, ServeFault>
     ensures no_entries { IfOk result (λ opened. HasNoEntries opened.value.node.board) }
     ensures fault { IfErr result (IsOpenFault saves) }
 {
     let alloc = rt.alloc();
-    if !are_open(rt) {
+    if !are_open(rt, trouble) {
         return Err(ServeFault::Run(RunFault::Device));
     }
     let mut file = SystemFile::open(rt, log, LOG, reason)?;
-    let input = read_all(alloc, &mut rt.stdin())?;
-    let store = store_of(rt, folder, saves)?;
+    let input = read_all(alloc, &mut input(rt, trouble))?;
+    let store = store_of(rt, folder, saves, trouble)?;
     let found = find_bank(alloc, &mut file, &input)?;
     if found.cut > 0 {
         let report = CutReport { bytes: found.cut };
@@ -130,8 +140,9 @@ fn serve_opened<H>(
     rt: &HostRuntime,
     threads: &H,
     port: u16,
-    opened: Box<SystemBank<'_>>,
+    opened: Box<SystemBank<'_, '_, '_>>,
     plan: Plan,
+    trouble: &Trouble<'_>,
 ) -> Result<(), ServeFault>
 where
     H: Threads + Wait + Clock + Sync + Net,
@@ -141,9 +152,9 @@ where
     ensures fault { IfErr result (IsProgramFault port plan true) }
 {
     if let Some(clients) = plan.clients {
-        return serve_clients_at(rt, threads, port, opened, clients, plan);
+        return serve_clients_at(rt, threads, port, opened, clients, plan, trouble);
     }
-    let listener = SocketListener::new(threads, listen(threads, port)?);
+    let listener = clients_at(threads, port, trouble)?;
     serve_bank(
         threads,
         Server {
@@ -151,32 +162,57 @@ where
             plan,
             listener,
             primary: Box::into_inner(opened),
-            writer: rt.stdout(),
+            writer: output(rt, trouble),
         },
     )?;
     Ok(())
 }
 
+// The clients who come to a port, one after another.
+fn clients_at<'t, 'd, 'r, H>(
+    threads: &'r H,
+    port: u16,
+    trouble: &'t Trouble<'d>,
+) -> Result<Watch<'t, 'd, SocketListener<'r, H, H::Listener>>, ServeFault>
+where
+    H: Wait + Net,
+    ensures fault { IfErr result (IsPortFault port) }
+{
+    let inner = SocketListener::new(threads, listen(threads, port, trouble)?);
+    let device = Device::Port(port);
+    Ok(Watch {
+        inner,
+        device,
+        trouble,
+    })
+}
+
 // The opening in standard input, read as `whole_opening` reads it.
-fn read_opening(rt: &HostRuntime) -> Result<Box<Opening>, ServeFault>
+fn read_opening(rt: &HostRuntime, trouble: &Trouble<'_>) -> Result<Box<Opening>, ServeFault>
     ensures fault { IfErr result IsOpeningFault }
 {
     let alloc = rt.alloc();
-    let input = read_all(alloc, &mut rt.stdin())?;
+    let input = read_all(alloc, &mut input(rt, trouble))?;
     let opening = whole_opening(alloc, &input)?;
     Ok(Box::new(alloc, opening)?)
 }
 
 // A store in this folder, which can be written. One of a bank that saves nothing isn't tried: it is
 // never used, but a bank is always served over one type of store.
-fn store_of(
+fn store_of<'t, 'd>(
     rt: &HostRuntime,
-    folder: &str,
+    folder: &'d str,
     saves: bool,
-) -> Result<FileStore<FolderFile<HostRuntime>>, ServeFault>
+    trouble: &'t Trouble<'d>,
+) -> Result<SystemStore<'t, 'd>, ServeFault>
     ensures fault { IfErr result (IsStoreFault saves) }
 {
-    let file = FolderFile::new(rt.alloc(), *rt, folder, CHECKPOINT)?;
+    let name = CHECKPOINT;
+    let file = Watch {
+        inner: FolderFile::new(rt.alloc(), *rt, folder, name)?,
+        device: Device::File { folder, name },
+        trouble,
+    };
     if !saves {
         return Ok(FileStore::new(file));
     }
@@ -205,6 +241,7 @@ fn serve_at<H, S>(
     opening: Box<Opening>,
     store: S,
     plan: Plan,
+    trouble: &Trouble<'_>,
 ) -> Result<(), ServeFault>
 where
     H: Threads + Wait + Clock + Sync + Net,
@@ -215,9 +252,9 @@ where
 {
     if let Some(clients) = plan.clients {
         let primary = boxed_primary(rt.alloc(), opening, store)?;
-        return serve_clients_at(rt, threads, port, primary, clients, plan);
+        return serve_clients_at(rt, threads, port, primary, clients, plan, trouble);
     }
-    let listener = SocketListener::new(threads, listen(threads, port)?);
+    let listener = clients_at(threads, port, trouble)?;
     serve(
         threads,
         rt.alloc(),
@@ -225,7 +262,7 @@ where
         Box::into_inner(opening),
         store,
         plan,
-        rt.stdout(),
+        output(rt, trouble),
     )?;
     Ok(())
 }

@@ -7,6 +7,7 @@ ghost use Rattle.bank_program.specs.ListFaults as lists;
 use crate::fault::ProgramFault;
 use crate::list_fault::ListFault;
 use crate::serve_fault::ServeFault;
+use ask_client::AskFault;
 use bank_server::RunFault;
 use sb_log::LogFault;
 use schedule_player::ScheduleFault;
@@ -30,8 +31,11 @@ pub fn told(fault: ProgramFault) -> Report
     let status = match &fault {
         ProgramFault::Run(fault) | ProgramFault::Serve(ServeFault::Run(fault)) => run_status(fault),
         ProgramFault::Log(fault) => list_status(*fault),
-        ProgramFault::Play(ScheduleFault::Input { .. }) => 1,
+        ProgramFault::Play(ScheduleFault::Input { .. })
+        | ProgramFault::Checkpoint(_)
+        | ProgramFault::Ask(AskFault::Line { .. } | AskFault::NoNumber(_)) => 1,
         ProgramFault::Play(ScheduleFault::Device | ScheduleFault::OutOfMemory)
+        | ProgramFault::Ask(_)
         | ProgramFault::Serve(
             ServeFault::ReadBack
             | ServeFault::Store

@@ -131,6 +131,24 @@ where
     serve_to(rt, alloc, client, None).late_reads.get()
 }
 
+// How long each read waits for a client at fault, of a server that waits for others for ever.
+fn limit_behind_a_fault<R>(rt: &R, alloc: Global) -> Option<Duration>
+where
+    R: Abort + Threads + Wait + Clock + Sync,
+{
+    let client = Client {
+        sent: b"GET",
+        manner: Manner::Plain,
+    };
+    serve_to(rt, alloc, client, None).read_limit.get()
+}
+
+#[test]
+fn a_client_at_fault_that_is_silent_is_left(rt: HostRuntime) {
+    let limit = limit_behind_a_fault(&rt, rt.alloc());
+    assert!(&rt; limit == Some(Duration::from_secs(3)));
+}
+
 // How long a slow one is listened to is seen by `.ci/program`.
 #[test]
 fn a_client_at_fault_is_left(rt: HostRuntime) {

@@ -5,9 +5,13 @@
 #[cfg(test)]
 mod clients;
 #[cfg(test)]
+mod devices;
+#[cfg(test)]
 mod hostile;
 #[cfg(test)]
 mod known;
+#[cfg(test)]
+mod lines;
 #[cfg(test)]
 mod logs;
 #[cfg(test)]

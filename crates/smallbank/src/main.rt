@@ -4,7 +4,8 @@
 ghost use Rattle.bank_program.specs.Words.{InRange};
 
 use bank_program::{
-    ProgramFault, Words, log_program, read_words, refuse_bytes, serve_program, told,
+    Device, LogWords, ProgramFault, RunWords, ServeWords, Trouble, Words, ask_program,
+    checkpoint_program, input, log_program, output, read_words, refuse_bytes, serve_program, tell,
 };
 use bank_server::{RunFault, run_text};
 use clap::error::ErrorKind;
@@ -18,50 +19,62 @@ use std::time::Clock;
 use std::{env, io};
 
 fn main(rt: HostRuntime) -> ExitCode {
-    let status = match start(&rt, &rt) {
-        Ok(status) => status,
-        Err(fault) => {
-            let report = told(fault);
-            if !fault.is_told() {
-                // If standard error fails too, the status still says the fault.
-                let _ = eprintln!(rt; "{report}");
-            }
-            report.status
-        }
-    };
-    ExitCode::from(status)
+    let words = words_of(&rt);
+    let trouble = Trouble::new(rt.alloc());
+    ExitCode::from(execute(&rt, &rt, &words, &trouble))
 }
 
-// Executes what the program's words say, and answers the exit status. The second handle is for
-// threads.
-fn start<H: Threads + Wait + Clock + Sync + Net>(
+// The program's words.
+fn words_of(rt: &HostRuntime) -> io::Result<Vec<String>> {
+    Ok(env::args(rt)?.collect(rt.alloc())?)
+}
+
+// Executes what the program's words say, tells a fault, and answers the exit status. The second handle
+// is for threads.
+fn execute<'d, H: Threads + Wait + Clock + Sync + Net>(
     rt: &HostRuntime,
     threads: &H,
+    words: &'d io::Result<Vec<String>>,
+    trouble: &Trouble<'d>,
+) -> u8 {
+    match start(rt, threads, words, trouble) {
+        Ok(status) => status,
+        Err(fault) => tell(rt, fault, trouble),
+    }
+}
+
+// Executes what the program's words say, and answers the exit status.
+fn start<'d, H: Threads + Wait + Clock + Sync + Net>(
+    rt: &HostRuntime,
+    threads: &H,
+    words: &'d io::Result<Vec<String>>,
+    trouble: &Trouble<'d>,
 ) -> Result<u8, ProgramFault> {
-    let words: Vec<String> = match env::args(rt) {
-        Ok(words) => words.collect(rt.alloc())?,
+    let words = match words {
+        Ok(words) => words,
         Err(error) if error.kind() == io::ErrorKind::OutOfMemory => {
             return Err(ProgramFault::Run(RunFault::OutOfMemory));
         }
-        Err(_) => return print_error(rt, refuse_bytes(rt.alloc())),
+        Err(_) => return print_error(rt, refuse_bytes(rt.alloc()), trouble),
     };
-    match read_words(rt.alloc(), &words) {
-        Ok(read) => obey(rt, threads, read),
-        Err(error) => print_error(rt, error),
+    match read_words(rt.alloc(), words) {
+        Ok(read) => obey(rt, threads, read, trouble),
+        Err(error) => print_error(rt, error, trouble),
     }
 }
 
 // Executes what the words say.
-fn obey<H: Threads + Wait + Clock + Sync + Net>(
+fn obey<'d, H: Threads + Wait + Clock + Sync + Net>(
     rt: &HostRuntime,
     threads: &H,
-    words: Words,
+    words: Words<'d>,
+    trouble: &Trouble<'d>,
 ) -> Result<u8, ProgramFault>
     requires { InRange words }
 {
     match words {
-        Words::Run { nodes, workers } => {
-            let (reader, writer) = (&mut rt.stdin(), &mut rt.stdout());
+        Words::Run(RunWords { nodes, workers }) => {
+            let (reader, writer) = (&mut input(rt, trouble), &mut output(rt, trouble));
             run_text(
                 threads,
                 rt.alloc(),
@@ -72,25 +85,41 @@ fn obey<H: Threads + Wait + Clock + Sync + Net>(
                 &OpenGate,
             )?;
         }
-        Words::Play => run_schedule(rt.alloc(), &mut rt.stdin(), &mut rt.stdout())?,
-        Words::Serve {
-            port,
-            plan,
-            store,
-            log,
-        } => serve_program(rt, threads, port, store, log, plan)?,
-        Words::Log { folder, action } => log_program(rt, folder, action)?,
+        Words::Play => run_schedule(
+            rt.alloc(),
+            &mut input(rt, trouble),
+            &mut output(rt, trouble),
+        )?,
+        Words::Serve(
+            ServeWords {
+                port,
+                plan,
+                store,
+                log,
+            },
+        ) => serve_program(rt, threads, port, store, log, plan, trouble)?,
+        Words::Log(LogWords { folder, action }) => log_program(rt, folder, action, trouble)?,
+        Words::Ask(words) => ask_program(rt, threads, words, trouble)?,
+        Words::Checkpoint(words) => checkpoint_program(rt, words, trouble)?,
     }
     Ok(0)
 }
 
 // Prints clap's text for words that start nothing: a fault, or help that they call for.
-fn print_error(rt: &HostRuntime, error: clap::Error) -> Result<u8, ProgramFault> {
+fn print_error(
+    rt: &HostRuntime,
+    error: clap::Error,
+    trouble: &Trouble<'_>,
+) -> Result<u8, ProgramFault> {
     if error.kind() == ErrorKind::OutOfMemory {
         return Err(ProgramFault::Run(RunFault::OutOfMemory));
     }
     match error.print(rt) {
         Ok(()) => Ok(error.exit_code() as u8),
-        Err(_) => Err(ProgramFault::Run(RunFault::Device)),
+        Err(failed) => {
+            // If it was standard error, nothing can be told.
+            trouble.note(Device::Output, &failed);
+            Err(ProgramFault::Run(RunFault::Device))
+        }
     }
 }
