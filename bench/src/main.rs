@@ -109,10 +109,16 @@ impl Bench {
     }
 }
 
+/// What a program does on an input, with the first line of its error text. Beneath it the product
+/// shows the line at fault.
 fn output(program: &Path, input: &Path) -> io::Result<Output> {
-    Command::new(program)
+    let mut ended = Command::new(program)
         .stdin(Stdio::from(File::open(input)?))
-        .output()
+        .output()?;
+    if let Some(end) = ended.stderr.iter().position(|byte| *byte == b'\n') {
+        ended.stderr.truncate(end + 1);
+    }
+    Ok(ended)
 }
 
 fn check_same(product: &Path, plain: &Path, input: &Path) -> Answer<()> {
