@@ -9,12 +9,10 @@ use crate::rule::{Offers, Picks, Queue};
 use crate::work::Work;
 use crate::worker_passes::{absorb_passes, split_passes};
 use cown_board::OPEN_BEHAVIOURS;
+use sb_calls::WORKERS;
 use std::alloc::{AllocError, Global};
 use std::marker::Model;
 use std::sync::Wait;
-
-/// How many workers a bench may have.
-pub const WORKERS: usize = 16;
 
 /// How many Works a bench holds: all that a board may have unfinished, and a `Stop` for each
 /// worker.

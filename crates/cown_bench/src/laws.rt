@@ -1,10 +1,9 @@
-//! The limits of a bench, as numbers.
+//! The limit of a bench, as a number.
 ghost use Rattle.std.specs.Prelude.{◌≡◌};
 
-use crate::bench::{BENCH_CAPACITY, WORKERS};
+use crate::bench::BENCH_CAPACITY;
 
-/// How many workers a bench may have, and how many Works it holds, as numbers.
+/// How many Works a bench holds, as a number.
 pub fn limits()
-    ensures workers { WORKERS ≡ 16 }
     ensures capacity { BENCH_CAPACITY ≡ 1040 }
 {}

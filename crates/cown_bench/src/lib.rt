@@ -11,7 +11,8 @@ mod rule;
 mod work;
 mod worker_passes;
 
-pub use bench::{BENCH_CAPACITY, Bench, WORKERS};
+pub use bench::{BENCH_CAPACITY, Bench};
 pub use laws::limits;
 pub use passes::{OwnerPass, WorkerPass};
+pub use sb_calls::WORKERS;
 pub use work::Work;

@@ -3,7 +3,7 @@ ghost use Rattle.std.specs.Prelude.{◌≡◌, ◌-◌, ◌≤◌, [], All, leng
 ghost use Rattle.crossbeam_queue.specs.Passes.{IsPassOf, view};
 ghost use Rattle.cown_bench.specs.BenchPasses.{picked_of};
 ghost use Rattle.cown_bench.specs.inner.PassViews.{HasRoom, all_parts, owner_view};
-ghost use Rattle.cown_bench.specs.declared.bench.TheConstants.{WORKERS};
+ghost use Rattle.sb_calls.specs.declared.nodes.TheConstants.{WORKERS};
 
 use crate::pass_history::PassHistory;
 use crate::passes::{OwnerPass, WorkerPass};

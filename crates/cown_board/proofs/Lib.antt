@@ -1,5 +1,6 @@
 mod BehindCounts
 mod BoardCallLaws
+mod BoardReplies
 mod BoardSteps
 mod CallEffects
 mod CownCounts

@@ -1,6 +1,5 @@
 pub mod Board
 pub mod BoardCalls
-pub mod Faults
 pub mod Job
 pub mod Positions
 pub mod Readiness

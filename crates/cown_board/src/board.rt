@@ -4,7 +4,6 @@ ghost use Rattle.sb_rows.specs.Balances.{IsBalances};
 ghost use Rattle.sb_calls.specs.Cowns.{AreBelow, contents_of};
 ghost use Rattle.sb_calls.specs.SerialRun.{reply_by_log};
 ghost use Rattle.cown_board.specs.Board.{BoardOf, length_of, unfinished_of, reply_in, Takes, Finishes, IsOutHere, IsAfterAll, AreCutColumns};
-ghost use Rattle.cown_board.specs.Faults.{submit_fault_number};
 ghost use Rattle.cown_board.specs.BoardCalls.{StaysTrueToLog, Submitted, TakenAt, Returned, CutMade, CutDropped};
 ghost use Rattle.cown_board.specs.Readiness.{ready_positions};
 
@@ -34,19 +33,6 @@ pub enum SubmitFault {
     /// Memory was refused.
     #[error("out of memory")]
     OutOfMemory,
-}
-
-impl SubmitFault {
-    /// The number of the fault, from 1 to 3 in the order of the variants.
-    pub fn number(&self) -> u8
-        ensures { result ≡ submit_fault_number self.now }
-    {
-        match self {
-            SubmitFault::Busy => 1,
-            SubmitFault::LogFull => 2,
-            SubmitFault::OutOfMemory => 3,
-        }
-    }
 }
 
 /// A log of behaviours. It hands out those whose cowns are free.

@@ -1,7 +1,6 @@
 //! A copy of the columns that is complete once the numbers up to a length are finished.
-ghost use Rattle.std.specs.Prelude.{◌≡◌, ◌≤◌, length, IfSome};
+ghost use Rattle.std.specs.Prelude.{◌≤◌, length, IfSome};
 ghost use Rattle.sb_calls.specs.Cowns.{AreBelow, AreCownValues, contents_of};
-ghost use Rattle.cown_board.specs.Faults.{cut_fault_number};
 ghost use Rattle.cown_board.specs.inner.CutUpdates.{UpdatesAnyCut};
 
 use sb_amount::Cents;
@@ -18,18 +17,6 @@ pub enum CutFault {
     /// Memory was refused.
     #[error("out of memory")]
     OutOfMemory,
-}
-
-impl CutFault {
-    /// The number of the fault, from 1 to 2 in the order of the variants.
-    pub fn number(&self) -> u8
-        ensures { result ≡ cut_fault_number self.now }
-    {
-        match self {
-            CutFault::Pending(_) => 1,
-            CutFault::OutOfMemory => 2,
-        }
-    }
 }
 
 // The columns that only the behaviours up to a number write.

@@ -2,7 +2,7 @@
 use crate::bank::{board_of, has_balances, replies};
 use crate::crews::{LastFirstCrew, OneJobCrew, StrangeCrew, StuckCrew};
 use crate::owners::{Branch, number_drained};
-use cown_board::{Board, OPEN_BEHAVIOURS};
+use cown_board::{Board, OPEN_BEHAVIOURS, Runs};
 use cown_workers::{Crew, CrewGone, InlineCrew, drain};
 use sb_calls::{Op, Reply};
 use std::alloc::Global;

@@ -16,16 +16,14 @@ impl Branch {
     pub(crate) fn over(number: u64, board: Box<Board<Op>>) -> Branch {
         Branch { number, board }
     }
-
-    pub(crate) fn board(&self) -> &Board<Op> {
-        &self.board
-    }
 }
 
 impl Runs for Branch {
     ghost use Rattle.std.specs.Prelude.{ℕ};
 
     ghost board = { λ branch. branch.board.value };
+
+    ghost Holds = { λ branch. Unit {0} };
 
     ghost Rest = { ℕ };
 
@@ -39,8 +37,8 @@ impl Runs for Branch {
         self.board.finish(done)
     }
 
-    fn idle(&self) -> bool {
-        self.board.idle()
+    fn board(&self) -> &Board<Op> {
+        &self.board
     }
 }
 

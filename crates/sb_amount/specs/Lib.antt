@@ -1,4 +1,3 @@
-pub mod Faults
 pub mod Limit
 pub mod Money
 pub mod Reading

@@ -1,6 +1,4 @@
 //! Why a text isn't money text.
-ghost use Rattle.std.specs.Prelude.{◌≡◌};
-ghost use Rattle.sb_amount.specs.Faults.{money_fault_number};
 
 use thiserror::Error;
 
@@ -22,19 +20,4 @@ pub enum MoneyFault {
     /// The amount is above the limit in size.
     #[error("too large")]
     TooLarge,
-}
-
-impl MoneyFault {
-    /// The number of the fault, from 1 to 5 in the order of the variants.
-    pub fn number(&self) -> u8
-        ensures { result ≡ money_fault_number self.now }
-    {
-        match self {
-            MoneyFault::Empty => 1,
-            MoneyFault::NotDigit => 2,
-            MoneyFault::BadDecimals => 3,
-            MoneyFault::NotCanonical => 4,
-            MoneyFault::TooLarge => 5,
-        }
-    }
 }

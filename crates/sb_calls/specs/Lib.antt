@@ -4,7 +4,6 @@ pub mod Call
 pub mod Conflicts
 pub mod CownLaws
 pub mod Cowns
-pub mod Faults
 pub mod FollowsProcedure
 pub mod Log
 pub mod Net

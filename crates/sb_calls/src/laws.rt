@@ -12,18 +12,21 @@ ghost use Rattle.sb_rows.specs.Rows.{Rows};
 
 use crate::call::LOG_CALLS;
 use crate::cowns::{BEHAVIOUR_COWNS, PENALTY};
+use crate::nodes::{REPLICAS, WORKERS};
 use crate::reply::Reply;
 use crate::wire_reply::TOTAL_LIMIT;
 use sb_amount::totals_are_short;
 
 /// The limits, as numbers: a log takes a million calls, the penalty of a check is 100 cents, a
 /// behaviour declares at most 3 cowns, and a total that is shown is at most twice the limit of a
-/// balance.
+/// balance. A bank has at most 16 replicas, and each of them at most 16 workers.
 pub fn limits()
     ensures calls { LOG_CALLS ≡ 1000000 }
     ensures penalty { PENALTY ≡ pos 100 }
     ensures cowns { BEHAVIOUR_COWNS ≡ 3 }
     ensures total { TOTAL_LIMIT ≡ pos 2000000000000 }
+    ensures replicas { REPLICAS ≡ 16 }
+    ensures workers { WORKERS ≡ 16 }
 {}
 
 /// The replies to a log are, number by number, the replies to its calls on the rows after the calls

@@ -7,6 +7,7 @@ mod call;
 mod cowns;
 mod laws;
 mod net_change;
+mod nodes;
 mod op;
 mod reply;
 mod text;
@@ -24,6 +25,7 @@ pub use laws::{
     replies_have_one_code, replies_have_spellings, replies_one_by_one, total_by_net,
 };
 pub use net_change::net;
+pub use nodes::{REPLICAS, WORKERS};
 pub use op::{Op, resolve};
 pub use reply::Reply;
 pub use text::{

@@ -1,11 +1,9 @@
 pub mod Checkpoint
 pub mod Drafts
-pub mod Faults
 pub mod FaultyStore
 pub mod FileStore
 pub mod FolderFile
 pub mod MemoryStore
 pub mod Reading
-pub mod StoreFaults
 pub mod Stores
 pub mod inner

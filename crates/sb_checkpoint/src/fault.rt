@@ -1,6 +1,5 @@
 //! The faults of bytes read as a checkpoint.
 ghost use Rattle.std.specs.Prelude.{◌≡◌};
-ghost use Rattle.sb_checkpoint.specs.Faults.{checkpoint_fault_number};
 ghost use Rattle.sb_checkpoint.specs.declared.fault.CheckpointFault.TheVariants.{OutOfMemory};
 
 use std::alloc::AllocError;
@@ -48,26 +47,5 @@ impl From<AllocError> for CheckpointFault {
 
     fn from(_refused: AllocError) -> CheckpointFault {
         CheckpointFault::OutOfMemory
-    }
-}
-
-impl CheckpointFault {
-    /// The number of the fault: 10 for `WrongOpening`, and 1 to 9 for the others in the order of
-    /// the variants.
-    pub fn number(&self) -> u8
-        ensures { result ≡ checkpoint_fault_number self.now }
-    {
-        match self {
-            CheckpointFault::BadMagic => 1,
-            CheckpointFault::Short => 2,
-            CheckpointFault::WrongCustomers => 3,
-            CheckpointFault::OutOfRange => 4,
-            CheckpointFault::NegativeSavings => 5,
-            CheckpointFault::WrongTotal => 6,
-            CheckpointFault::BadReply => 7,
-            CheckpointFault::Long => 8,
-            CheckpointFault::OutOfMemory => 9,
-            CheckpointFault::WrongOpening => 10,
-        }
     }
 }

@@ -1,6 +1,5 @@
 //! Where a replica stores its checkpoint.
 ghost use Rattle.std.specs.Prelude.{◌≡◌, MatchResult, option_map};
-ghost use Rattle.sb_checkpoint.specs.StoreFaults.{store_fault_number};
 ghost use Rattle.sb_checkpoint.specs.inner.FaultConversions.{store_fault_of};
 ghost use Rattle.sb_checkpoint.specs.declared.store.StoreFault.TheVariants.{OutOfMemory};
 ghost use Rattle.sb_checkpoint.specs.Stores.{Compares, StoreDoes, StoreModel, ReportsSame, Put, Get, GetFault};
@@ -35,18 +34,6 @@ impl From<ReadFault> for StoreFault {
         match fault {
             ReadFault::Device => StoreFault::Device,
             ReadFault::OutOfMemory => StoreFault::OutOfMemory,
-        }
-    }
-}
-
-impl StoreFault {
-    /// The number of the fault, from 1 to 2 in the order of the variants.
-    pub fn number(&self) -> u8
-        ensures { result ≡ store_fault_number self.now }
-    {
-        match self {
-            StoreFault::Device => 1,
-            StoreFault::OutOfMemory => 2,
         }
     }
 }

@@ -1,7 +1,6 @@
 pub mod Calls
 pub mod Decoding
 pub mod Entries
-pub mod Faults
 pub mod Fields
 pub mod Grammar
 pub mod Outcomes

@@ -1,6 +1,4 @@
 //! The faults of bytes.
-ghost use Rattle.std.specs.Prelude.{◌≡◌};
-ghost use Rattle.sb_frames.specs.Faults.{frame_fault_number, stream_fault_number};
 
 use thiserror::Error;
 
@@ -31,23 +29,6 @@ pub enum FrameFault {
     BadStatus,
 }
 
-impl FrameFault {
-    /// The number of the fault, from 1 to 7 in the order of the variants.
-    pub fn number(&self) -> u8
-        ensures { result ≡ frame_fault_number self.now }
-    {
-        match self {
-            FrameFault::Short => 1,
-            FrameFault::BadLength => 2,
-            FrameFault::UnknownTag => 3,
-            FrameFault::BadName => 4,
-            FrameFault::BadAmount => 5,
-            FrameFault::BadReply => 6,
-            FrameFault::BadStatus => 7,
-        }
-    }
-}
-
 /// Why a stream takes no bytes or hands out no frame.
 #[derive(Clone, Copy, Debug, PartialEq, Eq, Error)]
 pub enum StreamFault {
@@ -60,17 +41,4 @@ pub enum StreamFault {
     /// Memory was refused. Nothing changes.
     #[error("out of memory")]
     OutOfMemory,
-}
-
-impl StreamFault {
-    /// The number of the fault, from 1 to 3 in the order of the variants.
-    pub fn number(&self) -> u8
-        ensures { result ≡ stream_fault_number self.now }
-    {
-        match self {
-            StreamFault::Bad(_) => 1,
-            StreamFault::Failed => 2,
-            StreamFault::OutOfMemory => 3,
-        }
-    }
 }

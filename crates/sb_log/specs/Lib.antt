@@ -1,5 +1,4 @@
 pub mod FaultyFile
-pub mod Faults
 pub mod Lives
 pub mod LogCalls
 pub mod LogFiles

@@ -1,6 +1,5 @@
 //! Why a log failed.
 ghost use Rattle.std.specs.Prelude.{◌≡◌};
-ghost use Rattle.sb_log.specs.Faults.{log_fault_number};
 ghost use Rattle.sb_log.specs.inner.FaultConversions.{log_fault_of};
 ghost use Rattle.sb_log.specs.declared.log_fault.LogFault.TheVariants.{OutOfMemory};
 
@@ -30,20 +29,6 @@ pub enum LogFault {
     /// Another process has the log open.
     #[error("in use")]
     InUse,
-}
-
-impl LogFault {
-    /// The number of the fault, from 1 to 4 in the order of the variants.
-    pub fn number(&self) -> u8
-        ensures { result ≡ log_fault_number self.now }
-    {
-        match self {
-            LogFault::Device => 1,
-            LogFault::Damaged { .. } => 2,
-            LogFault::OutOfMemory => 3,
-            LogFault::InUse => 4,
-        }
-    }
 }
 
 impl From<AllocError> for LogFault {

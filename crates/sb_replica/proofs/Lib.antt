@@ -1,6 +1,5 @@
 pub mod AcceptedEntries
 pub mod AdoptedStates
-pub mod BoardReplies
 pub mod ChangedLogs
 pub mod EntriesAhead
 pub mod IdleReplies

@@ -1,4 +1,3 @@
-pub mod Faults
 pub mod Frames
 pub mod Marking
 pub mod Replica

@@ -1,6 +1,5 @@
 //! Why a replica didn't do what was requested.
 ghost use Rattle.std.specs.Prelude.{◌≡◌};
-ghost use Rattle.sb_replica.specs.Faults.{replica_fault_number, receive_fault_number, mark_fault_number, restart_fault_number, adopt_fault_number};
 ghost use Rattle.sb_replica.specs.Restarting.{of_store_fault};
 ghost use Rattle.sb_replica.specs.inner.FaultConversions.{adopt_fault_of, restart_fault_of};
 ghost use Rattle.sb_replica.specs.declared.fault.AdoptFault.TheVariants as adopt;
@@ -22,18 +21,6 @@ pub enum ReplicaFault {
     OutOfMemory,
 }
 
-impl ReplicaFault {
-    /// The number of the fault, from 1 to 2 in the order of the variants.
-    pub fn number(&self) -> u8
-        ensures { result ≡ replica_fault_number self.now }
-    {
-        match self {
-            ReplicaFault::BadFrame(_) => 1,
-            ReplicaFault::OutOfMemory => 2,
-        }
-    }
-}
-
 /// Why receiving a stream stopped. All that was received before stays.
 #[derive(Clone, Copy, Debug, PartialEq, Eq, Error, Drop)]
 pub enum ReceiveFault {
@@ -43,18 +30,6 @@ pub enum ReceiveFault {
     /// Memory was refused for an entry. It still stands in the stream, with all that is behind it.
     #[error("out of memory")]
     OutOfMemory,
-}
-
-impl ReceiveFault {
-    /// The number of the fault, from 1 to 2 in the order of the variants.
-    pub fn number(&self) -> u8
-        ensures { result ≡ receive_fault_number self.now }
-    {
-        match self {
-            ReceiveFault::Stream(_) => 1,
-            ReceiveFault::OutOfMemory => 2,
-        }
-    }
 }
 
 /// Why a mark failed. All but the store is as it was, the cut too.
@@ -71,19 +46,6 @@ pub enum MarkFault {
     OutOfMemory,
 }
 
-impl MarkFault {
-    /// The number of the fault, from 1 to 3 in the order of the variants.
-    pub fn number(&self) -> u8
-        ensures { result ≡ mark_fault_number self.now }
-    {
-        match self {
-            MarkFault::Busy => 1,
-            MarkFault::Device => 2,
-            MarkFault::OutOfMemory => 3,
-        }
-    }
-}
-
 /// Why a replica can't use what its store holds. All but the store is as it was.
 #[derive(Clone, Copy, Debug, PartialEq, Eq, Error, Drop)]
 pub enum RestartFault {
@@ -96,19 +58,6 @@ pub enum RestartFault {
     /// Memory was refused.
     #[error("out of memory")]
     OutOfMemory,
-}
-
-impl RestartFault {
-    /// The number of the fault, from 1 to 3 in the order of the variants.
-    pub fn number(&self) -> u8
-        ensures { result ≡ restart_fault_number self.now }
-    {
-        match self {
-            RestartFault::Device => 1,
-            RestartFault::BadCheckpoint(_) => 2,
-            RestartFault::OutOfMemory => 3,
-        }
-    }
 }
 
 impl From<AllocError> for RestartFault {
@@ -150,18 +99,6 @@ pub enum AdoptFault {
     /// Memory was refused.
     #[error("out of memory")]
     OutOfMemory,
-}
-
-impl AdoptFault {
-    /// The number of the fault, from 1 to 2 in the order of the variants.
-    pub fn number(&self) -> u8
-        ensures { result ≡ adopt_fault_number self.now }
-    {
-        match self {
-            AdoptFault::BadCheckpoint(_) => 1,
-            AdoptFault::OutOfMemory => 2,
-        }
-    }
 }
 
 impl From<AllocError> for AdoptFault {

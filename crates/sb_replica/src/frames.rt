@@ -10,6 +10,7 @@ ghost use Rattle.sb_replica.specs.declared.heard.Heard.TheVariants as heard;
 use crate::fault::ReplicaFault;
 use crate::heard::Heard;
 use crate::replica::Replica;
+use cown_board::Runs;
 use sb_calls::resolve;
 use sb_checkpoint::CheckpointStore;
 use sb_frames::{Frame, FrameFault, decode};

@@ -1,12 +1,8 @@
 //! A replica, and what can be read from it.
-ghost use Rattle.std.specs.Prelude.{◌≡◌, ◌≢◌, ◌↔◌, ◌<◌, ◌≤◌, ◌-◌, suc, Ok, length, IsTrue, IfOk, IfSome, OnErr, Some, MatchOption, MatchResult, option_map};
-ghost use Rattle.sb_rows.specs.Balances.{IsBalances};
+ghost use Rattle.std.specs.Prelude.{◌≡◌, suc, Ok, length, IfOk, OnErr, Some, MatchResult, option_map};
 ghost use Rattle.sb_calls.specs.Behaviour.{declared_cowns, effect_of};
-ghost use Rattle.sb_calls.specs.Cowns.{contents_of};
-ghost use Rattle.sb_calls.specs.SerialRun.{reply_by_log};
 ghost use Rattle.sb_calls.specs.Op.{IsOpWithin};
-ghost use Rattle.sb_calls.specs.Replies.{IsReply};
-ghost use Rattle.cown_board.specs.Board.{length_of, unfinished_of, reply_in, IsAfterAll};
+ghost use Rattle.cown_board.specs.Board.{length_of, reply_in};
 ghost use Rattle.cown_board.specs.BoardCalls.{StaysTrueToLog, Submitted};
 ghost use Rattle.sb_checkpoint.specs.Stores.{Compares, StoreDoes, Get, GetFault};
 ghost use Rattle.sb_frames.specs.declared.frame.Frame.TheVariants as frames;
@@ -14,9 +10,9 @@ ghost use Rattle.sb_replica_log.specs.Offers.{offer_answer, after_offer};
 ghost use Rattle.sb_replica.specs.Replica.{log_of, origin_of, replica_at_opening, with_log};
 
 use crate::restarting::log_at_opening;
-use cown_board::{Board, Runs};
+use cown_board::Runs;
 use lane_audit::bank_total;
-use sb_calls::{LOG_CALLS, Op, Reply, WireReply};
+use sb_calls::{Op, WireReply};
 use sb_checkpoint::{CheckpointStore, How, MemoryStore, StoreFault};
 use sb_frames::Frame;
 use sb_replica_log::{Offered, ReplicaLog};
@@ -108,14 +104,6 @@ impl<S: CheckpointStore> Replica<S> {
         self.log.reserve(additional)
     }
 
-    /// The board, for reading.
-    #[inline]
-    pub fn board(&self) -> &Board<Op>
-        ensures { result.now ≡ self.now.board }
-    {
-        self.log.board()
-    }
-
     /// The customers' names by place.
     pub fn directory(&self) -> &Directory
         ensures { result.now ≡ self.now.names }
@@ -128,49 +116,6 @@ impl<S: CheckpointStore> Replica<S> {
         ensures { result ≡ (origin_of self.now).opening_total }
     {
         bank_total(&self.opening)
-    }
-
-    /// The number of the last entry that was accepted.
-    pub fn length(&self) -> u64
-        ensures value { result ≡ length_of self.now.board }
-        ensures limit { length_of self.now.board ≤ LOG_CALLS }
-    {
-        self.log.length()
-    }
-
-    /// The reply to a number: one from the checkpoint that its board was opened on, or that of a
-    /// finished entry. The latter is the reply of the log run one by one from there on.
-    #[inline]
-    pub fn reply(&self, number: u64) -> Option<Reply>
-        ensures value { result ≡ reply_in self.now.board number }
-        ensures by_log { IfSome result (λ reply. length self.now.board.base_replies < number →
-            reply_by_log declared_cowns effect_of (contents_of self.now.board.opening) self.now.board.log
-            (number - length self.now.board.base_replies) ≡ Some reply) }
-        ensures valid { IfSome result IsReply }
-    {
-        // Its board was opened on the columns of a bank.
-        prove!(self.log.length() <= LOG_CALLS as u64);
-        self.log.reply(number)
-    }
-
-    /// The columns after all entries, or `None` if one is unfinished. Fails if memory is refused.
-    pub fn columns(&self) -> Result<Option<Columns>, AllocError>
-        ensures value { IfOk result (λ columns. MatchOption columns (unfinished_of self.now.board ≢ 0)
-            (λ all. (unfinished_of self.now.board ≡ 0) × IsAfterAll declared_cowns effect_of self.now.board all)) }
-        ensures bank { IfOk result (λ columns. IfSome columns IsBalances) }
-        ensures err { OnErr result (unfinished_of self.now.board ≡ 0) }
-    {
-        self.log.columns()
-    }
-
-    /// The columns after all entries, borrowed, or `None` if one is unfinished.
-    pub fn final_columns(&self) -> Option<&Columns>
-        ensures value { MatchOption result (unfinished_of self.now.board ≢ 0)
-            (λ columns. (unfinished_of self.now.board ≡ 0)
-            × IsAfterAll declared_cowns effect_of self.now.board columns.now) }
-        ensures bank { IfSome result (λ columns. IsBalances columns.now) }
-    {
-        self.log.board().final_columns()
     }
 
     /// What the store holds, as [`CheckpointStore::get`] answers.

@@ -10,7 +10,7 @@ ghost use Rattle.sb_replica.specs.Restarting.{Restarts, IsRestartFaultOf, IsBoar
 
 use crate::fault::RestartFault;
 use crate::replica::Replica;
-use cown_board::Board;
+use cown_board::{Board, Runs};
 use sb_calls::{LOG_CALLS, Reply};
 use sb_checkpoint::CheckpointStore;
 use sb_replica_log::ReplicaLog;

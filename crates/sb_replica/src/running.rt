@@ -1,16 +1,21 @@
 //! A replica runs its board's behaviours, and keeps all else.
 use crate::replica::Replica;
-use cown_board::{Done, Job, Runs};
+use cown_board::{Board, Done, Job, Runs};
 use sb_calls::{Op, Reply};
 use sb_checkpoint::CheckpointStore;
 
-// Each method is the log's.
+// The log runs them.
 impl<S: CheckpointStore> Runs for Replica<S> {
     ghost use Rattle.std.specs.Prelude.{List, Option};
+    ghost use Rattle.std.specs.List.{All};
+    ghost use Rattle.sb_calls.specs.Replies.{IsReply};
     ghost use Rattle.sb_calls.specs.declared.op.Op.{Op as AnyOp};
     ghost use Rattle.sb_replica.specs.Replica.{RestOf, rest_of};
 
     ghost board = { λ replica. replica.board };
+
+    // Each reply from before its board has a spelling.
+    ghost Holds = { λ replica. All IsReply replica.board.base_replies };
 
     ghost Rest = { RestOf S × List (Option AnyOp) };
 
@@ -26,7 +31,8 @@ impl<S: CheckpointStore> Runs for Replica<S> {
         self.log.finish(done)
     }
 
-    fn idle(&self) -> bool {
-        self.log.idle()
+    #[inline]
+    fn board(&self) -> &Board<Op> {
+        self.log.board()
     }
 }

@@ -12,6 +12,7 @@ use crate::adopted::Adopted;
 use crate::fault::{AdoptFault, RestartFault};
 use crate::replica::Replica;
 use crate::restarting::log_on;
+use cown_board::Runs;
 use sb_checkpoint::{Checkpoint, CheckpointFault, CheckpointStore, read_checkpoint};
 use sb_frames::Frame;
 

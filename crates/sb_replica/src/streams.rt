@@ -10,7 +10,7 @@ use crate::fault::ReceiveFault;
 use crate::pause::Pause;
 use crate::replica::Replica;
 use arrayvec::ArrayVec;
-use cown_board::OPEN_BEHAVIOURS;
+use cown_board::{OPEN_BEHAVIOURS, Runs};
 use sb_checkpoint::CheckpointStore;
 use sb_frames::{EntryOp, Lookahead, Stream, StreamFault};
 use sb_replica_log::ReplicaLog;

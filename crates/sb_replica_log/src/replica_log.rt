@@ -1,19 +1,15 @@
 //! The log of a replica.
-ghost use Rattle.std.specs.Prelude.{◌≡◌, ◌≢◌, ◌↔◌, ◌≤◌, ◌<◌, ◌-◌, ◌%◌, ℕ, length, suc, replicate, Ok, IfOk, IfSome, IsErrOf, OnOk, OnErr, Some, None, MatchOption, MatchResult};
-ghost use Rattle.sb_rows.specs.Balances.{IsBalances};
+ghost use Rattle.std.specs.Prelude.{◌≡◌, ◌↔◌, ◌<◌, ◌%◌, ℕ, length, suc, replicate, Ok, IfOk, IfSome, IsErrOf, OnOk, OnErr, Some, None, MatchResult};
 ghost use Rattle.sb_calls.specs.Behaviour.{declared_cowns, effect_of};
-ghost use Rattle.sb_calls.specs.Cowns.{contents_of};
-ghost use Rattle.sb_calls.specs.SerialRun.{reply_by_log};
 ghost use Rattle.sb_calls.specs.Op.{IsOpWithin};
-ghost use Rattle.cown_board.specs.Board.{length_of, unfinished_of, reply_in, IsAfterAll};
+ghost use Rattle.cown_board.specs.Board.{length_of};
 ghost use Rattle.cown_board.specs.BoardCalls.{StaysTrueToLog, Submitted, CutMade, CutDropped};
-ghost use Rattle.sb_replica_log.specs.Log.{none_held, next_held, IsReplicaLog};
+ghost use Rattle.sb_replica_log.specs.Log.{none_held, next_held};
 ghost use Rattle.sb_replica_log.specs.Offers.{offer_answer, after_offer, next_offer_answer, advance_answer, after_advance};
 
 use crate::offered::Offered;
 use cown_board::{Board, CutFault, Done, Job, Runs, SubmitFault};
 use sb_calls::{LOG_CALLS, Op, Reply};
-use sb_rows::Columns;
 use std::alloc::AllocError;
 use std::marker::Model;
 
@@ -167,48 +163,6 @@ impl ReplicaLog {
         self.board.reserve(additional)
     }
 
-    /// The board, for reading.
-    #[inline]
-    pub fn board(&self) -> &Board<Op>
-        ensures { result.now ≡ self.now.board }
-    {
-        &self.board
-    }
-
-    /// The number of the last entry.
-    #[inline]
-    pub fn length(&self) -> u64
-        ensures value { result ≡ length_of self.now.board }
-        ensures limit { length_of self.now.board ≤ LOG_CALLS }
-        ensures bank { IsBalances self.now.board.opening }
-        ensures same_length { length self.now.board.log ≡ length self.now.board.states }
-        ensures log_invariant { IsReplicaLog self.now }
-    {
-        self.board.length()
-    }
-
-    /// The reply to a number, as [`Board::reply`] gives it.
-    #[inline]
-    pub fn reply(&self, number: u64) -> Option<Reply>
-        ensures value { result ≡ reply_in self.now.board number }
-        ensures by_log { IfSome result (λ reply. length self.now.board.base_replies < number →
-            reply_by_log declared_cowns effect_of (contents_of self.now.board.opening) self.now.board.log
-            (number - length self.now.board.base_replies) ≡ Some reply) }
-    {
-        self.board.reply(number)
-    }
-
-    /// The columns after all entries, or `None` while one is unfinished. Fails if memory is
-    /// refused.
-    pub fn columns(&self) -> Result<Option<Columns>, AllocError>
-        ensures value { IfOk result (λ columns. MatchOption columns (unfinished_of self.now.board ≢ 0)
-            (λ all. (unfinished_of self.now.board ≡ 0) × IsAfterAll declared_cowns effect_of self.now.board all)) }
-        ensures bank { IfOk result (λ columns. IfSome columns IsBalances) }
-        ensures err { OnErr result (unfinished_of self.now.board ≡ 0) }
-    {
-        self.board.columns()
-    }
-
     /// Makes a cut at the log's length, and answers that length, as [`Board::cut`] does.
     pub fn cut(&mut self) -> Result<u64, CutFault>
         ensures number { IfOk result (λ number. number ≡ length_of self.old.board) }
@@ -235,12 +189,15 @@ impl ReplicaLog {
     }
 }
 
-// Each method is the board's. What is held stays.
+// The board runs its behaviours. What is held stays.
 impl Runs for ReplicaLog {
     ghost use Rattle.std.specs.Prelude.{List, Option};
     ghost use Rattle.sb_calls.specs.declared.op.Op.{Op as AnyOp};
+    ghost use Rattle.sb_replica_log.specs.Log.{IsReplicaLog};
 
     ghost board = { λ log. log.board };
+
+    ghost Holds = { IsReplicaLog };
 
     ghost Rest = { List (Option AnyOp) };
 
@@ -256,7 +213,8 @@ impl Runs for ReplicaLog {
         self.board.finish(done)
     }
 
-    fn idle(&self) -> bool {
-        self.board.idle()
+    #[inline]
+    fn board(&self) -> &Board<Op> {
+        &self.board
     }
 }

@@ -1,7 +1,6 @@
 pub mod Balances
 pub mod Customer
 pub mod Directory
-pub mod Fault
 pub mod Listing
 pub mod Name
 pub mod Opening

@@ -1,6 +1,5 @@
 //! Why an opening text is refused.
 ghost use Rattle.std.specs.Prelude.{◌≡◌};
-ghost use Rattle.sb_rows.specs.Fault.{line_fault_number, opening_fault_number};
 ghost use Rattle.sb_rows.specs.declared.fault.OpeningFault.TheVariants.{OutOfMemory};
 
 use std::alloc::AllocError;
@@ -32,23 +31,6 @@ pub enum LineFault {
     NoBegin,
 }
 
-impl LineFault {
-    /// The number of the fault, from 1 to 7 in the order of the variants.
-    pub fn number(&self) -> u8
-        ensures { result ≡ line_fault_number self.now }
-    {
-        match self {
-            LineFault::BadLine => 1,
-            LineFault::BadName => 2,
-            LineFault::DoubleName => 3,
-            LineFault::BadMoney => 4,
-            LineFault::NegativeSavings => 5,
-            LineFault::TooMany => 6,
-            LineFault::NoBegin => 7,
-        }
-    }
-}
-
 /// Why an opening text is refused.
 #[derive(Clone, Copy, Debug, PartialEq, Eq, Error)]
 pub enum OpeningFault {
@@ -70,17 +52,5 @@ impl From<AllocError> for OpeningFault {
 
     fn from(_refused: AllocError) -> OpeningFault {
         OpeningFault::OutOfMemory
-    }
-}
-
-impl OpeningFault {
-    /// The number of the fault: 1 to 7 for a line's fault, 8 for refused memory.
-    pub fn number(&self) -> u8
-        ensures { result ≡ opening_fault_number self.now }
-    {
-        match self {
-            OpeningFault::Line { fault, .. } => fault.number(),
-            OpeningFault::OutOfMemory => 8,
-        }
     }
 }

@@ -41,21 +41,6 @@ fn add_customer(
     Ok(())
 }
 
-// The opening at the front of a text, or the first faulty line.
-fn read_lines(alloc: Global, text: &[u8]) -> Result<Opening, OpeningFault>
-    ensures exact { Reads result (opening_of text.now) }
-    ensures within { IfOk result (λ o. o.consumed ≤ length text.now) }
-{
-    let mut directory = Directory::new(alloc);
-    let mut columns = Columns::new(alloc);
-    let consumed = read_customers(&mut directory, &mut columns, text)?;
-    Ok(Opening {
-        directory,
-        columns,
-        consumed,
-    })
-}
-
 // Adds the customers of the opening at the front of a text, and answers how many bytes it takes.
 fn read_customers(
     directory: &mut Directory,
@@ -105,5 +90,12 @@ pub fn read_opening(alloc: Global, text: &[u8]) -> Result<Opening, OpeningFault>
     ensures exact { Reads result (opening_of text.now) }
     ensures within { IfOk result (λ o. o.consumed ≤ length text.now) }
 {
-    read_lines(alloc, text)
+    let mut directory = Directory::new(alloc);
+    let mut columns = Columns::new(alloc);
+    let consumed = read_customers(&mut directory, &mut columns, text)?;
+    Ok(Opening {
+        directory,
+        columns,
+        consumed,
+    })
 }

@@ -1,7 +1,6 @@
 pub mod Answer
 pub mod Donors
 pub mod Entries
-pub mod Fault
 pub mod Log
 pub mod Notes
 pub mod Numbering

@@ -1,6 +1,4 @@
 //! The answer to an ask.
-ghost use Rattle.std.specs.Prelude.{◌≡◌};
-ghost use Rattle.sb_sequencer.specs.Fault.{ask_fault_number};
 
 use thiserror::Error;
 
@@ -25,17 +23,4 @@ pub enum AskFault {
     /// The key is new, and memory was refused.
     #[error("out of memory")]
     OutOfMemory,
-}
-
-impl AskFault {
-    /// The number of the fault.
-    pub fn number(&self) -> u8
-        ensures { result ≡ ask_fault_number self.now }
-    {
-        match self {
-            AskFault::Mismatch(_) => 1,
-            AskFault::LogFull => 2,
-            AskFault::OutOfMemory => 3,
-        }
-    }
 }

@@ -1,15 +1,14 @@
-//! What holds for the log after many asks, and the limits.
+//! What holds for the log after many asks, and the limit.
 ghost use Rattle.std.specs.Prelude.{◌≡◌, List, []};
 ghost use Rattle.sb_calls.specs.declared.ask.Key.{Key as AnyKey};
 ghost use Rattle.sb_calls.specs.declared.call.Call.{Call as AnyCall};
 ghost use Rattle.sb_sequencer.specs.Log.{log_after};
 ghost use Rattle.sb_sequencer.specs.Numbering.{first_asks};
 
-use crate::sequencer::{REPLICAS, RESEND};
+use crate::sequencer::RESEND;
 
-/// A sequencer has at most 16 replicas, and sends at most 16 entries again at a time.
+/// A sequencer sends at most 16 entries again at a time.
 pub fn limits()
-    ensures replicas { REPLICAS ≡ 16 }
     ensures resend { RESEND ≡ 16 }
 {}
 

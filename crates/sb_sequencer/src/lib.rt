@@ -15,4 +15,5 @@ mod sequencer;
 pub use answer::{AskFault, Numbered};
 pub use laws::{limits, numbering};
 pub use note::{AckNote, AnswerNote, HaveNote};
-pub use sequencer::{REPLICAS, RESEND, Sequencer};
+pub use sb_calls::REPLICAS;
+pub use sequencer::{RESEND, Sequencer};

@@ -16,13 +16,10 @@ use crate::asking::ask_log;
 use crate::log::Log;
 use crate::note::{AckNote, AnswerNote};
 use arrayvec::ArrayVec;
-use sb_calls::{Call, Key, LOG_CALLS, Reply, WireReply};
+use sb_calls::{Call, Key, LOG_CALLS, REPLICAS, Reply, WireReply};
 use sb_frames::{AskOutcome, Frame};
 use std::alloc::{AllocError, Global};
 use std::marker::Model;
-
-/// The greatest number of replicas of a sequencer.
-pub const REPLICAS: usize = 16;
 
 /// The greatest number of entries that are resent to a replica at once.
 pub const RESEND: usize = 16;

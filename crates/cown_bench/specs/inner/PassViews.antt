@@ -3,7 +3,8 @@ use Rattle.std.specs.Prelude.{◌≡◌, ℕ, ◌+◌, ◌-◌, ◌≤◌, true,
 use Rattle.crossbeam_queue.specs.Passes.{Pass, view}
 use Rattle.cown_bench.specs.BenchPasses.{OwnerOf, WorkerOf}
 use Rattle.cown_bench.specs.Picks.{WorkOf, PickOf}
-use Rattle.cown_bench.specs.declared.bench.TheConstants.{BENCH_CAPACITY, WORKERS}
+use Rattle.sb_calls.specs.declared.nodes.TheConstants.{WORKERS}
+use Rattle.cown_bench.specs.declared.bench.TheConstants.{BENCH_CAPACITY}
 use Rattle.cown_bench.specs.declared.pass_history.PassHistory.{PassHistory}
 
 -- the parts of all passes together

@@ -41,6 +41,7 @@ fn ask_line_of_words(mut words: Words) -> Result<AskLine, CallFault>
 /// Appends what an asking line asks to a list, in room that was reserved.
 ///
 /// Fails as [`read_ask`] does; nothing changes then.
+#[tactic(auto, unfolding(crate::specs::Ask::ask_line_of))]
 pub fn push_ask(line: &[u8], asks: &mut Vec<AskLine>) -> Result<(), CallFault>
     requires room { vec_len asks.old < vec_capacity asks.old }
     ensures pushed { MatchResult (ask_line_of line.now)
@@ -48,18 +49,7 @@ pub fn push_ask(line: &[u8], asks: &mut Vec<AskLine>) -> Result<(), CallFault>
         (λ fault. (result ≡ Err fault) × (asks.new ≡ asks.old)) }
     ensures capacity { vec_capacity asks.new ≡ vec_capacity asks.old }
 {
-    push_words(Words::of(line), asks)
-}
-
-// The same, of the line's words.
-#[inline(always)]
-fn push_words(mut words: Words, asks: &mut Vec<AskLine>) -> Result<(), CallFault>
-    requires room { vec_len asks.old < vec_capacity asks.old }
-    ensures pushed { MatchResult (ask_line_of_words words.entry)
-        (λ asked. IsOk result × (asks.new.items ≡ asks.old.items ++ asked ∷ []))
-        (λ fault. (result ≡ Err fault) × (asks.new ≡ asks.old)) }
-    ensures capacity { vec_capacity asks.new ≡ vec_capacity asks.old }
-{
+    let mut words = Words::of(line);
     let (key, verb) = key_and_verb(&mut words)?;
     push_call(verb, words, key, asks)
 }

@@ -1,6 +1,4 @@
 //! Why a line isn't a call, or isn't an asking line.
-ghost use Rattle.std.specs.Prelude.{◌≡◌};
-ghost use Rattle.sb_calls.specs.Faults.{call_fault_number};
 
 use thiserror::Error;
 
@@ -25,19 +23,4 @@ pub enum CallFault {
     /// A word in the place of a client's or a request's number isn't a valid number.
     #[error("bad number")]
     BadNumber,
-}
-
-impl CallFault {
-    /// The number of the fault, from 1 to 5 in the order of the variants.
-    pub fn number(&self) -> u8
-        ensures { result ≡ call_fault_number self.now }
-    {
-        match self {
-            CallFault::UnknownVerb => 1,
-            CallFault::WrongWords => 2,
-            CallFault::BadName => 3,
-            CallFault::BadMoney => 4,
-            CallFault::BadNumber => 5,
-        }
-    }
 }

@@ -50,7 +50,8 @@ loop-place-preserved g c =
           ∙ one_more c.in_ok-draft.draft.bytes (take place held) reply);
       missing = omega (arith, ap (λ d. d.missing) c.push.ensures, c.loop-place.invariant.missing, c.loop-place-test.true);
       valid = subst (All IsReply) (sym more)
-          (All-push IsReply (take place held) reply c.loop-place.invariant.valid (subst (λ o. IfSome o IsReply) c.unwrap.ensures c.reply.ensures.valid));
+          (All-push IsReply (take place held) reply c.loop-place.invariant.valid
+          (subst (λ o. IfSome o IsReply) c.unwrap.ensures (c.reply.ensures.valid c.reply.ensures.holds)));
     }
 
 pub returns : goal.returns

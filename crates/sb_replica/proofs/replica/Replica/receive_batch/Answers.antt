@@ -75,7 +75,7 @@ returns g c =
     let batch = c.as_slice-entries.result.now in
     let limit = c.min-limit.result in
     let unfinished : c.unfinished-room.result ≡ unfinished_of old.board =
-    c.unfinished-room.ensures.value ∙ ap (λ (b : BoardOf _). unfinished_of b) c.board.ensures in
+    c.unfinished-room.ensures.value ∙ ap (λ (b : BoardOf _). unfinished_of b) c.board.ensures.value in
     let most = c.unfinished-room.ensures.limit in
     let least = c.min-limit.ensures in
     let not_full = c.if-room-eq0.false in

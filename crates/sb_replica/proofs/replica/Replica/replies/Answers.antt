@@ -37,7 +37,7 @@ loop-place-preserved g c =
           (sym (reply_at board place c.requires) ∙ sym c.reply.ensures.value ∙ c.unwrap.ensures));
       valid = subst (All IsReply) (sym c.push_reserved.ensures.items)
           (All-push IsReply c.loop-place.replies.items c.unwrap.result c.loop-place.invariant.valid
-          (subst (λ o. IfSome o IsReply) c.unwrap.ensures c.reply.ensures.valid));
+          (subst (λ o. IfSome o IsReply) c.unwrap.ensures (c.reply.ensures.valid c.reply.ensures.holds)));
       count = omega (arith, c.loop-place.invariant.count, c.push_reserved.ensures.len);
       room = omega (arith, c.loop-place.invariant.room, c.push_reserved.ensures.capacity);
     }

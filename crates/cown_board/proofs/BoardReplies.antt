@@ -1,4 +1,4 @@
--- Each reply of a replica's board has a spelling.
+-- Each reply of a bank's board has a spelling, if those from before it have one.
 use Rattle.std.proofs.Common.{◌≡◌, inl, inr, ℕ, ◌<◌, ◌-◌, Bool, true, false, cond, leb, eqb, Option, Some, None, List, length, IfSome, sym, subst}
 use Rattle.std.specs.List.{All, slice_get}
 use Rattle.std.proofs.lemmas.Bool.{cases_Bool, leb-false}
