@@ -42,7 +42,7 @@ impl Gate for OpenGate {
 }
 
 // Executes a job between the two calls of a gate.
-pub(crate) fn carry_out<G: Gate>(gate: &G, job: Job<Op>) -> Done<Op>
+pub(crate) fn run_at_gate<G: Gate>(gate: &G, job: Job<Op>) -> Done<Op>
     ensures { IsResultOf result job }
 {
     gate.before(job.number());

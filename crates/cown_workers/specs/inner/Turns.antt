@@ -4,8 +4,8 @@ use Rattle.sb_calls.specs.declared.op.Op.{Op}
 use Rattle.cown_board.specs.Job.{JobOf}
 use Rattle.cown_bench.specs.BenchPasses.{WorkerOf, PicksWork}
 use Rattle.cown_bench.specs.declared.work.Work.TheVariants.{Run, Stop}
-use Rattle.cown_workers.specs.declared.worker.Turn.{Turn}
-use Rattle.cown_workers.specs.declared.worker.Turn.TheVariants.{Waited, HandedOver, Stopped}
+use Rattle.cown_workers.specs.declared.threads.worker.Turn.{Turn}
+use Rattle.cown_workers.specs.declared.threads.worker.Turn.TheVariants.{Waited, HandedOver, Stopped}
 
 -- a turn: the worker waited and picked nothing; or it picked a job and sent its result; or it
 -- picked a `Stop`

@@ -1,9 +1,0 @@
--- The closure was called once, on the crew that was started.
-use Rattle.std.proofs.Common.{refl}
-use Rattle.cown_workers.proofs.in_threads.fn.run.scope.Goals as goal
-
-pub returns : goal.returns
-returns g c = record {
-  answer = (_, record { shown = _; shows = c.in_ok-crew.ensures.crew; left = _; met = c.f-answer.ensures; leaves = refl }, c.close.ensures);
-  fault = tt;
-}

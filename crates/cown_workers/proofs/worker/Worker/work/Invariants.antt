@@ -1,6 +1,0 @@
--- The worker stays at its bench.
-use Rattle.std.proofs.Common.{◌≡◌}
-use Rattle.cown_workers.proofs.worker.Worker.work.Given as goal
-
-abbrev pub invariant-loop : goal.invariant-loop
-invariant-loop g l = l.self.bench.now ≡ l.fn.self.bench.now
