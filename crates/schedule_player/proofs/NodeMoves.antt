@@ -23,10 +23,10 @@ use Rattle.schedule_player.specs.MachineView.{stages_of, ops_of, slot_length}
 use Rattle.schedule_player.specs.declared.node.Node.{Node}
 use Rattle.schedule_text.specs.declared.note.Note.{Note}
 use Rattle.schedule_text.specs.declared.note.Note.TheVariants as note
-use Rattle.schedule_player.proofs.BoardOfLog.{job_along, along_taken}
+use Rattle.schedule_player.proofs.boards.BoardOfLog.{job_along, along_taken}
 use Rattle.schedule_player.proofs.Lists.{every_set}
-use Rattle.schedule_player.proofs.Runnable.{runnable_alike}
-use Rattle.schedule_player.proofs.Stages.{set-map, stages_set}
+use Rattle.schedule_player.proofs.boards.Runnable.{runnable_alike}
+use Rattle.schedule_player.proofs.boards.Stages.{set-map, stages_set}
 use Rattle.cown_board.specs.declared.state.State.TheVariants.{Out}
 
 -- only the board, what is held and the store of the old replica changed

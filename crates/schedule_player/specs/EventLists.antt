@@ -9,6 +9,7 @@ use Rattle.schedule_player.specs.World.{WorldOf, Moves, bank_with, opened_world}
 use Rattle.schedule_text.specs.ScheduleText.{ScheduleOf}
 use Rattle.schedule_text.specs.declared.event.Event.{Event}
 use Rattle.schedule_text.specs.declared.event.Event.TheVariants as event
+use Rattle.schedule_text.specs.declared.event.SystemEvent.TheVariants as system
 use Rattle.schedule_text.specs.declared.note.Note.{Note}
 
 -- the machine goes from the old world to the new one by these events, with these notes
@@ -35,10 +36,10 @@ all_synced log = record { log = log; synced = length log }
 abbrev pub log_after_event : SyncedLog → Event → SyncedLog
 log_after_event l (event.Append client request call) =
     record l { log = log_with l.log (record { client = client; request = request }, call) }
-log_after_event l event.Sync = all_synced l.log
+log_after_event l (event.System system.Sync) = all_synced l.log
 log_after_event l (event.Ask client request call) =
     all_synced (log_with l.log (record { client = client; request = request }, call))
-log_after_event l (event.Crash kept) = all_synced (take (max l.synced kept) l.log)
+log_after_event l (event.System (system.Crash kept)) = all_synced (take (max l.synced kept) l.log)
 log_after_event l other = l
 
 -- the log after these events, from an empty one

@@ -11,7 +11,6 @@ pub mod Observers
 pub mod OneBased
 pub mod PossibleNotes
 pub mod Readiness
-pub mod ReplicaEvents
 pub mod ReplicaMoves
 pub mod ReplicaOfLog
 pub mod RunText

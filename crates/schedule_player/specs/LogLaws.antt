@@ -15,6 +15,7 @@ use Rattle.schedule_player.specs.EventLists.{PlaysEvents, log_of_events}
 use Rattle.schedule_player.specs.World.{WorldOf, bank_of, bank_with, crashed_world, world_log}
 use Rattle.schedule_text.specs.declared.event.Event.{Event}
 use Rattle.schedule_text.specs.declared.event.Event.TheVariants as event
+use Rattle.schedule_text.specs.declared.event.SystemEvent.TheVariants as system
 use Rattle.schedule_text.specs.declared.note.Note.{Note}
 
 -- of two moments, the later log begins with what was synced at the earlier one, and so does what is
@@ -26,7 +27,7 @@ SyncedLogsStay = (old new : WorldOf) (events : List Event) (notes : List Note) â
 -- whether it is neither an append nor a crash
 abbrev pub leaves_all_synced : Event â†’ Bool
 leaves_all_synced (event.Append client request call) = false
-leaves_all_synced (event.Crash kept) = false
+leaves_all_synced (event.System (system.Crash kept)) = false
 leaves_all_synced other = true
 
 -- the request in an event, if it is an ask

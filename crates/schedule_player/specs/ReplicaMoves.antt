@@ -5,12 +5,16 @@ use Rattle.sb_checkpoint.specs.declared.memory_store.How.{How}
 use Rattle.sb_checkpoint.specs.declared.memory_store.How.TheVariants as how
 use Rattle.sb_frames.specs.declared.frame.Frame.{Frame}
 use Rattle.sb_frames.specs.declared.frame.Frame.TheVariants as frame
+use Rattle.sb_sequencer.specs.Entries.{entry_of, entries_to_resend}
+use Rattle.sb_sequencer.specs.Sequencer.{SequencerOf}
 use Rattle.cown_board.specs.declared.board.TheConstants.{OPEN_BEHAVIOURS}
 use Rattle.sb_replica_log.specs.declared.replica_log.TheConstants.{HELD_ENTRIES}
 use Rattle.schedule_player.specs.Bank.{BankOf, log_reply}
 use Rattle.schedule_player.specs.OneBased.{nth_item, with_nth}
 use Rattle.schedule_player.specs.Readiness.{runnable_entries}
 use Rattle.schedule_player.specs.Stage.{Stage, Waits, IsOut, IsDone, is_undone}
+use Rattle.schedule_text.specs.declared.event.NodeEvent.{NodeEvent}
+use Rattle.schedule_text.specs.declared.event.NodeEvent.TheVariants as event
 use Rattle.schedule_text.specs.declared.note.Note.{Note}
 use Rattle.schedule_text.specs.declared.note.Note.TheVariants as note
 
@@ -243,3 +247,21 @@ resend_move node entries = (record node { inbound = node.inbound ++ entries }, n
 -- a state of this many entries is sent to it
 abbrev pub receive_move : NodeOf → ℕ → NodeOf × Note
 receive_move node size = (record node { states = node.states ++ size ∷ [] }, note.Gave (suc (length node.states)))
+
+-- ---- all of them
+
+-- what an event at replica r does there, given the bank and the sequencer
+abbrev pub node_move : BankOf → SequencerOf → ℕ → NodeOf → NodeEvent → NodeOf × Note
+node_move bank sequencer r node (event.Send number) = send_move node (entry_of sequencer.log number)
+node_move bank sequencer r node event.Resend = resend_move node (entries_to_resend sequencer r)
+node_move bank sequencer r node (event.To position) = deliver_move node position
+node_move bank sequencer r node event.Ack = ack_move node r
+node_move bank sequencer r node (event.Answer number) = answer_move bank node number
+node_move bank sequencer r node (event.Take worker index) = take_move bank node worker index
+node_move bank sequencer r node (event.Finish worker) = finish_move bank node worker
+node_move bank sequencer r node (event.Mark how) = mark_move node how
+node_move bank sequencer r node event.Restart = restart_move node
+node_move bank sequencer r node event.Cut = cut_move node
+node_move bank sequencer r node event.Next = next_move node
+node_move bank sequencer r node event.Have = have_move node r
+node_move bank sequencer r node (event.Adopt position) = adopt_move node position

@@ -15,9 +15,3 @@ BlamesSchedule OutOfMemory read = Unit {0}
 abbrev pub LeavesWriter : ScheduleFault → Option (List ℕ) → Option (List ℕ) → Type 0
 LeavesWriter Device old new = Unit {0}
 LeavesWriter other old new = Keeps old new
-
--- the number of a schedule's fault
-abbrev pub schedule_fault_number : ScheduleFault → ℕ
-schedule_fault_number (Input line fault) = 1
-schedule_fault_number Device = 2
-schedule_fault_number OutOfMemory = 3

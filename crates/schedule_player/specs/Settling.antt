@@ -6,16 +6,17 @@ use Rattle.schedule_player.specs.Stage.{IsDone}
 use Rattle.schedule_player.specs.World.{WorldOf, world_move}
 use Rattle.schedule_text.specs.declared.event.Event.{Event}
 use Rattle.schedule_text.specs.declared.event.Event.TheVariants as event
+use Rattle.schedule_text.specs.declared.event.NodeEvent.TheVariants as node_event
 
 -- each of the first so many workers, in order, finishes what it has in hand
 abbrev pub finish_events : ℕ → ℕ → List Event
 finish_events r zero = []
-finish_events r (suc k) = finish_events r k ++ event.Finish r (suc k) ∷ []
+finish_events r (suc k) = finish_events r k ++ event.At r (node_event.Finish (suc k)) ∷ []
 
 -- this many times, the first worker takes the first entry that may run, and finishes it
 abbrev pub work_events : ℕ → ℕ → List Event
 work_events r zero = []
-work_events r (suc n) = work_events r n ++ event.Take r 1 0 ∷ event.Finish r 1 ∷ []
+work_events r (suc n) = work_events r n ++ event.At r (node_event.Take 1 0) ∷ event.At r (node_event.Finish 1) ∷ []
 
 -- the machine after these events, none of which is an ask
 abbrev pub after_events : WorldOf → List Event → WorldOf

@@ -16,11 +16,13 @@ use Rattle.sb_sequencer.specs.declared.answer.Numbered.TheVariants.{New, Repeat}
 use Rattle.schedule_sequencer.specs.DurableSequencer.{DurableSequencerOf, empty_durable, whole_log, after_append, after_sync, log_after_crash, after_crash}
 use Rattle.schedule_player.specs.Bank.{BankOf, log_rows}
 use Rattle.schedule_player.specs.OneBased.{nth_item}
-use Rattle.schedule_player.specs.ReplicaEvents.{replica_of, node_move}
-use Rattle.schedule_player.specs.ReplicaMoves.{NodeOf, opened_node, length_in, undone_in, receive_move}
+use Rattle.schedule_player.specs.ReplicaMoves.{NodeOf, opened_node, length_in, undone_in, receive_move, node_move}
 use Rattle.schedule_text.specs.ScheduleText.{ScheduleOf}
 use Rattle.schedule_text.specs.declared.event.Event.{Event}
 use Rattle.schedule_text.specs.declared.event.Event.TheVariants as event
+use Rattle.schedule_text.specs.declared.event.NodeEvent.{NodeEvent}
+use Rattle.schedule_text.specs.declared.event.NodeEvent.TheVariants as node_event
+use Rattle.schedule_text.specs.declared.event.SystemEvent.TheVariants as system
 use Rattle.schedule_text.specs.declared.note.AuditNote.{AuditNote}
 use Rattle.schedule_text.specs.declared.note.AuditNote.TheVariants as audit
 use Rattle.schedule_text.specs.declared.note.Note.{Note}
@@ -158,20 +160,20 @@ give_move world r None = (world, note.Nothing)
 -- ---- all events but an ask, an append and a donor
 
 -- an event at a replica moves that replica
-abbrev pub replica_move : WorldOf → Event → Option ℕ → WorldOf × Note
-replica_move world happens (Some r) =
-    move_at world r (λ node. node_move (bank_of world) world.sequencer.synced node happens)
-replica_move world happens None = (world, note.Nothing)
+abbrev pub replica_move : WorldOf → ℕ → NodeEvent → WorldOf × Note
+replica_move world r happens =
+    move_at world r (λ node. node_move (bank_of world) world.sequencer.synced r node happens)
 
 abbrev pub world_move : WorldOf → Event → WorldOf × Note
-world_move world (event.From r position) = from_move world r position (slice_get world.nodes r)
-world_move world (event.Give a r) = give_move world r (slice_get world.nodes a)
-world_move world (event.Audit a b) =
+world_move world (event.At r happens) = replica_move world r happens
+world_move world (event.System (system.From r position)) = from_move world r position (slice_get world.nodes r)
+world_move world (event.System (system.Give a r)) = give_move world r (slice_get world.nodes a)
+world_move world (event.System (system.Audit a b)) =
     (world, audit_if (bank_of world) a b (slice_get world.nodes a) (slice_get world.nodes b))
-world_move world event.Sync = (synced_world world, note.Synced (length (world_log world)))
-world_move world (event.Crash kept) =
+world_move world (event.System system.Sync) = (synced_world world, note.Synced (length (world_log world)))
+world_move world (event.System (system.Crash kept)) =
     (crashed_world world kept, note.Crashed (length (log_after_crash world.sequencer kept)))
-world_move world other = replica_move world other (replica_of other)
+world_move world other = (world, note.Nothing)
 
 -- the donor of a replica's state, as the sequencer names it
 abbrev pub IsDonorNote : SequencerOf → ℕ → Note → Type 0
@@ -185,7 +187,7 @@ Moves old (event.Ask client request call) note new =
     Asks old (record { client = client; request = request }, call) note new
 Moves old (event.Append client request call) note new =
     AppendsAsk old (record { client = client; request = request }, call) note new
-Moves old (event.Donor r) note new = IsDonorNote old.sequencer.synced r note × (new ≡ old)
+Moves old (event.System (system.Donor r)) note new = IsDonorNote old.sequencer.synced r note × (new ≡ old)
 Moves old other note new = world_move old other ≡ (new, note)
 
 -- ---- when memory may be refused
@@ -221,11 +223,11 @@ MayWantMemory world (event.Ask client request call) =
     AnswersAsk (world_log world) (record { client = client; request = request }, call) (Err OutOfMemory)
 MayWantMemory world (event.Append client request call) =
     AnswersAsk (world_log world) (record { client = client; request = request }, call) (Err OutOfMemory)
-MayWantMemory world (event.Take r worker index) = ⊥
-MayWantMemory world (event.Finish r worker) = ⊥
-MayWantMemory world (event.From r position) = ⊥
-MayWantMemory world (event.Donor r) = ⊥
-MayWantMemory world (event.Give a r) = (a < length world.nodes) × (r < length world.nodes)
+MayWantMemory world (event.At r (node_event.Take worker index)) = ⊥
+MayWantMemory world (event.At r (node_event.Finish worker)) = ⊥
+MayWantMemory world (event.System (system.From r position)) = ⊥
+MayWantMemory world (event.System (system.Donor r)) = ⊥
+MayWantMemory world (event.System (system.Give a r)) = (a < length world.nodes) × (r < length world.nodes)
 MayWantMemory world other = IsTrue (may_take_memory (world_move world other).1)
 
 -- memory may be refused to the next event; after the last one there is none

@@ -2,7 +2,6 @@
 //! isn't played.
 ghost use Rattle.std.specs.Prelude.{◌≡◌};
 ghost use Rattle.schedule_player.specs.inner.FaultConversions.{schedule_read_fault, schedule_text_fault};
-ghost use Rattle.schedule_player.specs.ScheduleFaults.{schedule_fault_number};
 ghost use Rattle.schedule_player.specs.declared.fault.ScheduleFault.TheVariants as schedule;
 
 use sb_text::ReadFault;
@@ -49,19 +48,6 @@ pub enum ScheduleFault {
     /// Memory was refused.
     #[error("out of memory")]
     OutOfMemory,
-}
-
-impl ScheduleFault {
-    /// The number of the fault.
-    pub fn number(&self) -> u8
-        ensures { result ≡ schedule_fault_number self.now }
-    {
-        match self {
-            ScheduleFault::Input { .. } => 1,
-            ScheduleFault::Device => 2,
-            ScheduleFault::OutOfMemory => 3,
-        }
-    }
 }
 
 impl From<ReadFault> for ScheduleFault {

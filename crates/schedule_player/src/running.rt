@@ -9,10 +9,11 @@ ghost use Rattle.schedule_player.specs.declared.fault.ScheduleFault.TheVariants 
 ghost use Rattle.schedule_text.specs.ScheduleText.{schedule_of};
 ghost use Rattle.schedule_text.specs.declared.note.Note.{Note as AnyNote};
 
+mod printing;
+
 use crate::fault::ScheduleFault;
-use crate::states::push_states;
-use crate::stepping::play_lines;
-use crate::world::World;
+use crate::running::printing::push_states;
+use crate::world::{World, play_lines};
 use sb_text::{read_all, write_whole};
 use schedule_text::{Events, Schedule, read_schedule};
 use std::alloc::Global;

@@ -1,9 +1,9 @@
 //! Replicas that are asked and compared after each event of a random schedule.
 use crate::disorder::step;
-use crate::worlds::{agree, world_of};
+use crate::worlds::{agree, at, world_of};
 use sb_calls::read_call;
 use sb_checkpoint::How;
-use schedule_player::{Event, World};
+use schedule_player::{Event, NodeEvent, SystemEvent, World};
 use std::process::Abort;
 
 const CALLS: [&str; 8] = [
@@ -42,26 +42,30 @@ fn happening(replica: u32, kind: u32, random: u32) -> Event {
     let position = random % 24 + 1;
     let worker = random % 2 + 1;
     match kind {
-        0 => Event::Resend { replica },
-        1 => Event::Restart { replica },
-        2 => Event::Cut { replica },
-        3 => Event::Mark {
+        0 => at(replica, NodeEvent::Resend),
+        1 => at(replica, NodeEvent::Restart),
+        2 => at(replica, NodeEvent::Cut),
+        3 => at(
             replica,
-            how: ending(random),
-        },
-        4 => Event::Give {
+            NodeEvent::Mark {
+                how: ending(random),
+            },
+        ),
+        4 => Event::System(SystemEvent::Give {
             donor: random % 3,
             replica,
-        },
-        5 => Event::Adopt { replica, position },
-        6 | 7 => Event::Next { replica },
-        8..=16 => Event::Take {
+        }),
+        5 => at(replica, NodeEvent::Adopt { position }),
+        6 | 7 => at(replica, NodeEvent::Next),
+        8..=16 => at(
             replica,
-            worker,
-            index: random / 2 % 2,
-        },
-        17..=25 => Event::Finish { replica, worker },
-        _ => Event::To { replica, position },
+            NodeEvent::Take {
+                worker,
+                index: random / 2 % 2,
+            },
+        ),
+        17..=25 => at(replica, NodeEvent::Finish { worker }),
+        _ => at(replica, NodeEvent::To { position }),
     }
 }
 

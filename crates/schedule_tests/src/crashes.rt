@@ -2,7 +2,7 @@
 use crate::outputs::expect_played;
 use crate::worlds::{all_happen, replies, stands_at, world_of};
 use sb_calls::{Reply, read_call};
-use schedule_player::{Event, Note, World};
+use schedule_player::{Event, Note, SystemEvent, World};
 use std::process::Abort;
 
 // Checks the call that a number has in the log.
@@ -79,7 +79,7 @@ fn a_crash_keeps_up_to_a_number(rt: HostRuntime) {
             ],
         );
         let left = kept.max(2).min(4);
-        let crash = Event::Crash { kept };
+        let crash = Event::System(SystemEvent::Crash { kept });
         assert!(rt;
             world.step(crash) == Ok(Note::Crashed(u64::from(left))),
             "{kept}"

@@ -1,6 +1,6 @@
 //! Entries in a random order, none of them more than 64 ahead.
-use crate::worlds::{asks, sends, stands_at, world_of};
-use schedule_player::{Event, Note, World};
+use crate::worlds::{asks, at, sends, stands_at, world_of};
+use schedule_player::{NodeEvent, Note, World};
 use std::process::Abort;
 
 const ENTRIES: u32 = 1_000;
@@ -10,23 +10,20 @@ const ENTRIES: u32 = 1_000;
 fn takes_what_is_held(rt: &impl Abort, world: &mut World, after: u32) -> u32 {
     assert!(rt; after <= ENTRIES);
     for number in after + 1..=ENTRIES {
-        let note = world.step(Event::Next { replica: 0 });
+        let note = world.step(at(0, NodeEvent::Next));
         if note == Ok(Note::Nothing) {
             return number - 1;
         }
         assert!(rt; note == Ok(Note::Accepted(u64::from(number))));
     }
-    assert!(rt; world.step(Event::Next { replica: 0 }) == Ok(Note::Nothing));
+    assert!(rt; world.step(at(0, NodeEvent::Next)) == Ok(Note::Nothing));
     ENTRIES
 }
 
 // An entry comes after this many were accepted; answers how many are now.
 fn comes(rt: &impl Abort, world: &mut World, position: u32, accepted: u32) -> u32 {
     assert!(rt; accepted < ENTRIES);
-    let note = world.step(Event::To {
-        replica: 0,
-        position,
-    });
+    let note = world.step(at(0, NodeEvent::To { position }));
     if position > accepted + 1 {
         assert!(rt; note == Ok(Note::Held(u64::from(position))));
         return accepted;

@@ -1,9 +1,10 @@
 //! Lines of events.
+use crate::worlds::at;
 use sb_amount::Cents;
 use sb_calls::{Call, CallFault};
 use sb_checkpoint::How;
 use sb_rows::Name;
-use schedule_text::{Event, EventFault, read_event};
+use schedule_text::{Event, EventFault, NodeEvent, SystemEvent, read_event};
 use std::process::Abort;
 
 #[test]
@@ -15,28 +16,19 @@ fn reads_a_line_of_each_event_of_the_log(rt: HostRuntime) {
         request: 2,
         call: Call::DepositChecking(bob, amount),
     };
-    let send = Event::Send {
-        replica: 0,
-        number: 5,
-    };
-    let to = Event::To {
-        replica: 2,
-        position: 6,
-    };
-    let answer = Event::Answer {
-        replica: 4,
-        number: 7,
-    };
-    let from = Event::From {
+    let send = at(0, NodeEvent::Send { number: 5 });
+    let to = at(2, NodeEvent::To { position: 6 });
+    let answer = at(4, NodeEvent::Answer { number: 7 });
+    let from = Event::System(SystemEvent::From {
         replica: 5,
         position: 8,
-    };
+    });
     for (line, event) in [
         ("ask 7 2 deposit bob 10.00", ask),
         ("send 0 5", send),
-        ("resend 1", Event::Resend { replica: 1 }),
+        ("resend 1", at(1, NodeEvent::Resend)),
         ("to 2 6", to),
-        ("ack 3", Event::Ack { replica: 3 }),
+        ("ack 3", at(3, NodeEvent::Ack)),
         ("answer 4 7", answer),
         ("from 5 8", from),
     ] {
@@ -46,25 +38,24 @@ fn reads_a_line_of_each_event_of_the_log(rt: HostRuntime) {
 
 #[test]
 fn reads_a_line_of_each_event_of_a_replica(rt: HostRuntime) {
-    let take = Event::Take {
-        replica: 6,
-        worker: 16,
-        index: 9,
-    };
-    let finish = Event::Finish {
-        replica: 7,
-        worker: 1,
-    };
-    let audit = Event::Audit {
+    let take = at(
+        6,
+        NodeEvent::Take {
+            worker: 16,
+            index: 9,
+        },
+    );
+    let finish = at(7, NodeEvent::Finish { worker: 1 });
+    let audit = Event::System(SystemEvent::Audit {
         first: 3,
         second: 2,
-    };
+    });
     for (line, event) in [
         ("take 6 16 9", take),
         ("finish 7 1", finish),
-        ("restart 1", Event::Restart { replica: 1 }),
-        ("cut 1", Event::Cut { replica: 1 }),
-        ("next 1", Event::Next { replica: 1 }),
+        ("restart 1", at(1, NodeEvent::Restart)),
+        ("cut 1", at(1, NodeEvent::Cut)),
+        ("next 1", at(1, NodeEvent::Next)),
         ("audit 3 2", audit),
     ] {
         assert!(rt; read_event(line.as_bytes()) == Ok(event), "{line}");
@@ -73,17 +64,19 @@ fn reads_a_line_of_each_event_of_a_replica(rt: HostRuntime) {
 
 #[test]
 fn reads_a_line_of_each_event_of_states(rt: HostRuntime) {
-    let give = Event::Give {
+    let give = Event::System(SystemEvent::Give {
         donor: 3,
         replica: 4,
-    };
-    let adopt = Event::Adopt {
-        replica: 5,
-        position: 4294967295,
-    };
+    });
+    let adopt = at(
+        5,
+        NodeEvent::Adopt {
+            position: 4294967295,
+        },
+    );
     for (line, event) in [
-        ("have 1", Event::Have { replica: 1 }),
-        ("donor 2", Event::Donor { replica: 2 }),
+        ("have 1", at(1, NodeEvent::Have)),
+        ("donor 2", Event::System(SystemEvent::Donor { replica: 2 })),
         ("give 3 4", give),
         ("adopt 5 4294967295", adopt),
     ] {
@@ -102,9 +95,12 @@ fn reads_a_line_of_each_event_of_a_log_that_is_synced_in_part(rt: HostRuntime) {
     };
     for (line, event) in [
         ("append 7 2 deposit bob 10.00", append),
-        ("sync", Event::Sync),
-        ("crash 0", Event::Crash { kept: 0 }),
-        ("crash 4294967295", Event::Crash { kept: 4294967295 }),
+        ("sync", Event::System(SystemEvent::Sync)),
+        ("crash 0", Event::System(SystemEvent::Crash { kept: 0 })),
+        (
+            "crash 4294967295",
+            Event::System(SystemEvent::Crash { kept: 4294967295 }),
+        ),
     ] {
         assert!(rt; read_event(line.as_bytes()) == Ok(event), "{line}");
     }
@@ -117,7 +113,7 @@ fn reads_how_a_put_ends(rt: HostRuntime) {
         ("mark 0 old", How::Old),
         ("mark 0 new", How::New),
     ] {
-        let event = Event::Mark { replica: 0, how };
+        let event = at(0, NodeEvent::Mark { how });
         assert!(rt; read_event(line.as_bytes()) == Ok(event), "{line}");
     }
 }
@@ -139,11 +135,13 @@ fn reads_an_ask_of_client_0_and_the_greatest_numbers(rt: HostRuntime) {
     is_ask(&rt, "ask 0 0 balance alice", 0, 0);
     let line = "ask 4294967295 4294967295 balance alice";
     is_ask(&rt, line, 4294967295, 4294967295);
-    let event = Event::Take {
-        replica: 4294967295,
-        worker: 4294967295,
-        index: 4294967295,
-    };
+    let event = at(
+        4294967295,
+        NodeEvent::Take {
+            worker: 4294967295,
+            index: 4294967295,
+        },
+    );
     let line = b"take 4294967295 4294967295 4294967295".as_slice();
     assert!(rt; read_event(line) == Ok(event));
 }

@@ -91,17 +91,16 @@ fn has_text(rt: &impl Abort, alloc: Global, fault: &impl Display, text: &str) {
 }
 
 #[test]
-fn numbers_and_texts_of_the_faults_of_a_schedule(rt: HostRuntime) {
+fn texts_of_the_faults_of_a_schedule(rt: HostRuntime) {
     let unknown = ScheduleFault::Input {
         line: 3,
         fault: ScheduleLineFault::Event(EventFault::UnknownEvent),
     };
-    for (fault, number, text) in [
-        (unknown, 1, "line 3: unknown event"),
-        (ScheduleFault::Device, 2, "device"),
-        (ScheduleFault::OutOfMemory, 3, "out of memory"),
+    for (fault, text) in [
+        (unknown, "line 3: unknown event"),
+        (ScheduleFault::Device, "device"),
+        (ScheduleFault::OutOfMemory, "out of memory"),
     ] {
-        assert!(rt; fault.number() == number, "{text}");
         has_text(&rt, rt.alloc(), &fault, text);
     }
 }

@@ -1,8 +1,8 @@
 //! The largest world: sixteen replicas of sixteen workers, each of which takes a job and finishes
 //! it.
-use crate::worlds::{agree, all_happen, stands_at, world_over};
+use crate::worlds::{agree, all_happen, at, stands_at, world_over};
 use sb_calls::{Reply, read_call};
-use schedule_player::{AuditNote, Event, Note, World};
+use schedule_player::{AuditNote, Event, NodeEvent, Note, World};
 use std::process::Abort;
 
 const REPLICAS: u32 = 16;
@@ -55,19 +55,26 @@ fn asks_for_each(rt: &impl Abort, world: &mut World) {
 fn takes_each(rt: &impl Abort, world: &mut World, replica: u32) {
     for number in 1..=WORKERS {
         let note = u64::from(number);
-        is_noted(rt, world, Event::Send { replica, number }, Note::Sent(note));
+        is_noted(
+            rt,
+            world,
+            at(replica, NodeEvent::Send { number }),
+            Note::Sent(note),
+        );
         let position = number;
         is_noted(
             rt,
             world,
-            Event::To { replica, position },
+            at(replica, NodeEvent::To { position }),
             Note::Accepted(note),
         );
-        let take = Event::Take {
+        let take = at(
             replica,
-            worker: number,
-            index: 0,
-        };
+            NodeEvent::Take {
+                worker: number,
+                index: 0,
+            },
+        );
         is_noted(rt, world, take, Note::Took(note));
     }
 }
@@ -77,7 +84,7 @@ fn finishes_each(rt: &impl Abort, world: &mut World, replica: u32) {
     for before in 0..WORKERS {
         let worker = WORKERS - before;
         let note = Note::Finished(u64::from(worker), Reply::Done);
-        is_noted(rt, world, Event::Finish { replica, worker }, note);
+        is_noted(rt, world, at(replica, NodeEvent::Finish { worker }), note);
     }
 }
 

@@ -1,9 +1,12 @@
 //! The schedules that texts spell.
 use crate::event_lists::are_events;
+use crate::worlds::at;
 use sb_calls::Call;
 use sb_checkpoint::How;
 use sb_rows::{LineFault, Name};
-use schedule_text::{Event, EventFault, Schedule, ScheduleLineFault, TextFault, read_schedule};
+use schedule_text::{
+    Event, EventFault, NodeEvent, Schedule, ScheduleLineFault, TextFault, read_schedule,
+};
 use std::alloc::Global;
 use std::process::Abort;
 
@@ -58,15 +61,9 @@ fn reads_events(rt: HostRuntime) {
         request: 1,
         call: Call::Balance(alice),
     };
-    let send = Event::Send {
-        replica: 0,
-        number: 1,
-    };
-    let mark = Event::Mark {
-        replica: 1,
-        how: How::New,
-    };
-    let restart = Event::Restart { replica: 1 };
+    let send = at(0, NodeEvent::Send { number: 1 });
+    let mark = at(1, NodeEvent::Mark { how: How::New });
+    let restart = at(1, NodeEvent::Restart);
     let wanted = [ask, send, mark, restart];
     are_events(&rt, &schedule.events, &wanted);
 }

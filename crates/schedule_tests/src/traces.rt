@@ -2,12 +2,12 @@
 ghost use Rattle.std.specs.Prelude.{◌≡◌, ◌*◌, length};
 ghost use Rattle.sb_calls.specs.Cowns.{contents_of};
 
-use crate::worlds::{OPENING, accepts, sends, stands_at, world_of};
+use crate::worlds::{OPENING, accepts, at, sends, stands_at, world_of};
 use cown_board::Board;
 use cown_workers::{Gate, Notice, Traced, drain, with_crew};
 use sb_calls::{Op, read_call, resolve};
 use sb_rows::{Directory, Opening, read_opening};
-use schedule_player::{Event, Note, World};
+use schedule_player::{Event, NodeEvent, Note, World};
 use std::alloc::Global;
 use std::process::Abort;
 use std::sync::Wait;
@@ -114,11 +114,13 @@ fn hand_over(rt: &impl Abort, hands: &mut [u64; 16], before: u64, now: u64) -> u
 
 // The first ready entry has this number. A worker whose hand is empty takes it.
 fn takes(rt: &impl Abort, world: &mut World, hands: &mut [u64; 16], number: u64) {
-    let take = Event::Take {
-        replica: 0,
-        worker: hand_over(rt, hands, 0, number),
-        index: 0,
-    };
+    let take = at(
+        0,
+        NodeEvent::Take {
+            worker: hand_over(rt, hands, 0, number),
+            index: 0,
+        },
+    );
     assert!(rt; world.step(take) == Ok(Note::Took(number)), "{number}");
 }
 
@@ -130,10 +132,12 @@ fn finishes(
     board: &Board<Op>,
     number: u64,
 ) {
-    let finish = Event::Finish {
-        replica: 0,
-        worker: hand_over(rt, hands, number, 0),
-    };
+    let finish = at(
+        0,
+        NodeEvent::Finish {
+            worker: hand_over(rt, hands, number, 0),
+        },
+    );
     let reply = board.reply(number).expect(rt, "a reply");
     assert!(rt;
         world.step(finish) == Ok(Note::Finished(number, reply)),

@@ -1,7 +1,7 @@
 //! Worlds of three customers, and what happens in them.
 use sb_calls::{Call, Reply, read_call};
 use sb_rows::{Opening, read_opening};
-use schedule_player::{Event, Note, World};
+use schedule_player::{Event, NodeEvent, Note, World};
 use schedule_text::read_event;
 use std::alloc::Global;
 use std::process::Abort;
@@ -30,6 +30,11 @@ pub(crate) fn world_over(
     } = opening;
     let world = World::open(alloc, directory, columns, nodes, workers).expect(rt, "memory");
     Box::new(alloc, world).expect(rt, "memory")
+}
+
+// An event at a replica.
+pub(crate) fn at(replica: u32, event: NodeEvent) -> Event {
+    Event::At { replica, event }
 }
 
 // The event that a line spells.
@@ -103,7 +108,7 @@ fn new_ask(request: u32, call: &Call) -> Event {
 // its number.
 pub(crate) fn sends(rt: &impl Abort, world: &mut World, count: u32) {
     for number in 1..=count {
-        let event = Event::Send { replica: 0, number };
+        let event = at(0, NodeEvent::Send { number });
         assert!(rt; world.step(event) == Ok(Note::Sent(u64::from(number))));
     }
 }
@@ -111,10 +116,7 @@ pub(crate) fn sends(rt: &impl Abort, world: &mut World, count: u32) {
 // The frames at these positions arrive at the first replica, which accepts their entries.
 pub(crate) fn accepts(rt: &impl Abort, world: &mut World, count: u32) {
     for position in 1..=count {
-        let event = Event::To {
-            replica: 0,
-            position,
-        };
+        let event = at(0, NodeEvent::To { position });
         assert!(rt; world.step(event) == Ok(Note::Accepted(u64::from(position))));
     }
 }

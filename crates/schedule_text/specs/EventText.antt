@@ -10,6 +10,8 @@ use Rattle.sb_checkpoint.specs.declared.memory_store.How.{How}
 use Rattle.sb_checkpoint.specs.declared.memory_store.How.TheVariants as how
 use Rattle.schedule_text.specs.declared.event.Event.{Event}
 use Rattle.schedule_text.specs.declared.event.Event.TheVariants as event
+use Rattle.schedule_text.specs.declared.event.NodeEvent.TheVariants as node
+use Rattle.schedule_text.specs.declared.event.SystemEvent.TheVariants as system
 use Rattle.schedule_text.specs.declared.fault.EventFault.{EventFault}
 use Rattle.schedule_text.specs.declared.fault.EventFault.TheVariants as faults
 use Rattle.schedule_text.specs.declared.fault.EventFault.TheVariants.{UnknownEvent, WrongWords, BadNumber}
@@ -64,7 +66,7 @@ how_of word =
     else None
 
 abbrev pub mark_with_how : Option ℕ → Option How → Result Event EventFault
-mark_with_how (Some r) (Some how) = Ok (event.Mark r how)
+mark_with_how (Some r) (Some how) = Ok (event.At r (node.Mark how))
 mark_with_how (Some r) None = Err BadNumber
 mark_with_how None how = Err BadNumber
 
@@ -98,37 +100,37 @@ event_of_call made (client ∷ []) = Err WrongWords
 abbrev pub log_event : List ℕ → List (List ℕ) → Result Event EventFault
 log_event verb rest =
     if bytes_eq verb (codes "append") then event_of_call event.Append rest
-    else if bytes_eq verb (codes "sync") then event_of_none event.Sync rest
-    else if bytes_eq verb (codes "crash") then event_of_one event.Crash rest
+    else if bytes_eq verb (codes "sync") then event_of_none (event.System system.Sync) rest
+    else if bytes_eq verb (codes "crash") then event_of_one (λ a. event.System (system.Crash a)) rest
     else Err UnknownEvent
 
 -- an event by its first word: those of checkpoints, and of states that replicas get from others
 abbrev pub state_event : List ℕ → List (List ℕ) → Result Event EventFault
 state_event verb rest =
     if bytes_eq verb (codes "mark") then mark_event rest
-    else if bytes_eq verb (codes "restart") then event_of_one event.Restart rest
-    else if bytes_eq verb (codes "cut") then event_of_one event.Cut rest
-    else if bytes_eq verb (codes "donor") then event_of_one event.Donor rest
-    else if bytes_eq verb (codes "give") then event_of_two event.Give rest
-    else if bytes_eq verb (codes "adopt") then event_of_two event.Adopt rest
+    else if bytes_eq verb (codes "restart") then event_of_one (λ r. event.At r node.Restart) rest
+    else if bytes_eq verb (codes "cut") then event_of_one (λ r. event.At r node.Cut) rest
+    else if bytes_eq verb (codes "donor") then event_of_one (λ a. event.System (system.Donor a)) rest
+    else if bytes_eq verb (codes "give") then event_of_two (λ a b. event.System (system.Give a b)) rest
+    else if bytes_eq verb (codes "adopt") then event_of_two (λ r n. event.At r (node.Adopt n)) rest
     else log_event verb rest
 
 -- an event by its first word: those that replicas do without the network
 abbrev pub replica_event : List ℕ → List (List ℕ) → Result Event EventFault
 replica_event verb rest =
-    if bytes_eq verb (codes "take") then event_of_three event.Take rest
-    else if bytes_eq verb (codes "finish") then event_of_two event.Finish rest
-    else if bytes_eq verb (codes "next") then event_of_one event.Next rest
-    else if bytes_eq verb (codes "audit") then event_of_two event.Audit rest
+    if bytes_eq verb (codes "take") then event_of_three (λ r worker index. event.At r (node.Take worker index)) rest
+    else if bytes_eq verb (codes "finish") then event_of_two (λ r n. event.At r (node.Finish n)) rest
+    else if bytes_eq verb (codes "next") then event_of_one (λ r. event.At r node.Next) rest
+    else if bytes_eq verb (codes "audit") then event_of_two (λ a b. event.System (system.Audit a b)) rest
     else state_event verb rest
 
 -- an event by its first word: those that replicas send to the sequencer
 abbrev pub report_event : List ℕ → List (List ℕ) → Result Event EventFault
 report_event verb rest =
-    if bytes_eq verb (codes "ack") then event_of_one event.Ack rest
-    else if bytes_eq verb (codes "answer") then event_of_two event.Answer rest
-    else if bytes_eq verb (codes "have") then event_of_one event.Have rest
-    else if bytes_eq verb (codes "from") then event_of_two event.From rest
+    if bytes_eq verb (codes "ack") then event_of_one (λ r. event.At r node.Ack) rest
+    else if bytes_eq verb (codes "answer") then event_of_two (λ r n. event.At r (node.Answer n)) rest
+    else if bytes_eq verb (codes "have") then event_of_one (λ r. event.At r node.Have) rest
+    else if bytes_eq verb (codes "from") then event_of_two (λ a b. event.System (system.From a b)) rest
     else replica_event verb rest
 
 -- an event by its first word: all
@@ -136,9 +138,9 @@ abbrev pub event_of_words : List (List ℕ) → Result Event EventFault
 event_of_words [] = Err UnknownEvent
 event_of_words (verb ∷ rest) =
     if bytes_eq verb (codes "ask") then event_of_call event.Ask rest
-    else if bytes_eq verb (codes "send") then event_of_two event.Send rest
-    else if bytes_eq verb (codes "resend") then event_of_one event.Resend rest
-    else if bytes_eq verb (codes "to") then event_of_two event.To rest
+    else if bytes_eq verb (codes "send") then event_of_two (λ r n. event.At r (node.Send n)) rest
+    else if bytes_eq verb (codes "resend") then event_of_one (λ r. event.At r node.Resend) rest
+    else if bytes_eq verb (codes "to") then event_of_two (λ r n. event.At r (node.To n)) rest
     else report_event verb rest
 
 -- the event that a line says, or its first fault

@@ -5,9 +5,8 @@ use Rattle.sb_rows.specs.Balances.{Balances}
 use Rattle.sb_rows.specs.Opening.{opening_of, ◌>>=◌, at_line}
 use Rattle.sb_rows.specs.Text.{lines, words, after_line}
 use Rattle.sb_rows.specs.declared.fault.LineFault.{LineFault}
-use Rattle.cown_bench.specs.declared.bench.TheConstants.{WORKERS}
 use Rattle.sb_calls.specs.Ask.{read_number}
-use Rattle.sb_sequencer.specs.declared.sequencer.TheConstants.{REPLICAS}
+use Rattle.sb_calls.specs.declared.nodes.TheConstants.{REPLICAS, WORKERS}
 use Rattle.schedule_text.specs.EventText.{event_of}
 use Rattle.schedule_text.specs.declared.event.Event.{Event}
 use Rattle.schedule_text.specs.declared.fault.EventFault.{EventFault}

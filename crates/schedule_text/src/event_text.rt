@@ -7,7 +7,7 @@ ghost use Rattle.schedule_text.specs.EventText.{event_of, event_of_words, mark_e
 ghost use Rattle.schedule_text.specs.inner.LineFaults.{BlamesLine};
 ghost use Rattle.schedule_text.specs.ScheduleText.{events_from, in_events};
 
-use crate::event::Event;
+use crate::event::{Event, NodeEvent, SystemEvent};
 use crate::events::Events;
 use crate::fault::{EventFault, ScheduleLineFault, TextFault};
 use crate::parsing::{parse_call, parse_end, parse_one, parse_three, parse_two};
@@ -46,15 +46,24 @@ fn event_of(mut words: Words) -> Result<Event, EventFault>
     }
     if word_is(verb, b"send") {
         let (replica, number) = parse_two(words)?;
-        return Ok(Event::Send { replica, number });
+        return Ok(Event::At {
+            replica,
+            event: NodeEvent::Send { number },
+        });
     }
     if word_is(verb, b"resend") {
         let replica = parse_one(words)?;
-        return Ok(Event::Resend { replica });
+        return Ok(Event::At {
+            replica,
+            event: NodeEvent::Resend,
+        });
     }
     if word_is(verb, b"to") {
         let (replica, position) = parse_two(words)?;
-        return Ok(Event::To { replica, position });
+        return Ok(Event::At {
+            replica,
+            event: NodeEvent::To { position },
+        });
     }
     report_event(verb, words)
 }
@@ -66,19 +75,28 @@ fn report_event(verb: &[u8], words: Words) -> Result<Event, EventFault>
 {
     if word_is(verb, b"ack") {
         let replica = parse_one(words)?;
-        return Ok(Event::Ack { replica });
+        return Ok(Event::At {
+            replica,
+            event: NodeEvent::Ack,
+        });
     }
     if word_is(verb, b"answer") {
         let (replica, number) = parse_two(words)?;
-        return Ok(Event::Answer { replica, number });
+        return Ok(Event::At {
+            replica,
+            event: NodeEvent::Answer { number },
+        });
     }
     if word_is(verb, b"have") {
         let replica = parse_one(words)?;
-        return Ok(Event::Have { replica });
+        return Ok(Event::At {
+            replica,
+            event: NodeEvent::Have,
+        });
     }
     if word_is(verb, b"from") {
         let (replica, position) = parse_two(words)?;
-        return Ok(Event::From { replica, position });
+        return Ok(Event::System(SystemEvent::From { replica, position }));
     }
     replica_event(verb, words)
 }
@@ -90,23 +108,28 @@ fn replica_event(verb: &[u8], words: Words) -> Result<Event, EventFault>
 {
     if word_is(verb, b"take") {
         let (replica, worker, index) = parse_three(words)?;
-        return Ok(Event::Take {
+        return Ok(Event::At {
             replica,
-            worker,
-            index,
+            event: NodeEvent::Take { worker, index },
         });
     }
     if word_is(verb, b"finish") {
         let (replica, worker) = parse_two(words)?;
-        return Ok(Event::Finish { replica, worker });
+        return Ok(Event::At {
+            replica,
+            event: NodeEvent::Finish { worker },
+        });
     }
     if word_is(verb, b"next") {
         let replica = parse_one(words)?;
-        return Ok(Event::Next { replica });
+        return Ok(Event::At {
+            replica,
+            event: NodeEvent::Next,
+        });
     }
     if word_is(verb, b"audit") {
         let (first, second) = parse_two(words)?;
-        return Ok(Event::Audit { first, second });
+        return Ok(Event::System(SystemEvent::Audit { first, second }));
     }
     state_event(verb, words)
 }
@@ -120,23 +143,32 @@ fn state_event(verb: &[u8], words: Words) -> Result<Event, EventFault>
     }
     if word_is(verb, b"restart") {
         let replica = parse_one(words)?;
-        return Ok(Event::Restart { replica });
+        return Ok(Event::At {
+            replica,
+            event: NodeEvent::Restart,
+        });
     }
     if word_is(verb, b"cut") {
         let replica = parse_one(words)?;
-        return Ok(Event::Cut { replica });
+        return Ok(Event::At {
+            replica,
+            event: NodeEvent::Cut,
+        });
     }
     if word_is(verb, b"donor") {
         let replica = parse_one(words)?;
-        return Ok(Event::Donor { replica });
+        return Ok(Event::System(SystemEvent::Donor { replica }));
     }
     if word_is(verb, b"give") {
         let (donor, replica) = parse_two(words)?;
-        return Ok(Event::Give { donor, replica });
+        return Ok(Event::System(SystemEvent::Give { donor, replica }));
     }
     if word_is(verb, b"adopt") {
         let (replica, position) = parse_two(words)?;
-        return Ok(Event::Adopt { replica, position });
+        return Ok(Event::At {
+            replica,
+            event: NodeEvent::Adopt { position },
+        });
     }
     log_event(verb, words)
 }
@@ -156,11 +188,11 @@ fn log_event(verb: &[u8], words: Words) -> Result<Event, EventFault>
     }
     if word_is(verb, b"sync") {
         parse_end(words)?;
-        return Ok(Event::Sync);
+        return Ok(Event::System(SystemEvent::Sync));
     }
     if word_is(verb, b"crash") {
         let kept = parse_one(words)?;
-        return Ok(Event::Crash { kept });
+        return Ok(Event::System(SystemEvent::Crash { kept }));
     }
     Err(EventFault::UnknownEvent)
 }
@@ -175,7 +207,10 @@ fn mark_event(mut words: Words) -> Result<Event, EventFault>
     let (Some(replica), Some(how)) = (read_number(replica), how_of(how)) else {
         return Err(EventFault::BadNumber);
     };
-    Ok(Event::Mark { replica, how })
+    Ok(Event::At {
+        replica,
+        event: NodeEvent::Mark { how },
+    })
 }
 
 // How a put ends, as a word says it.

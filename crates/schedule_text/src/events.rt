@@ -2,9 +2,8 @@
 ghost use Rattle.std.specs.Prelude.{◌≡◌, ◌==◌, true, false, [], ◌∷◌, ◌++◌, length, IfOk, MatchOption, None, Some, OnOk, OnErr};
 ghost use Rattle.schedule_text.specs.inner.ShortEvents as spec;
 
-use crate::event::Event;
+use crate::event::{Event, NodeEvent, SystemEvent};
 use sb_calls::Call;
-use sb_checkpoint::How;
 use std::alloc::{AllocError, Global};
 use std::marker::Model;
 use std::mem::size_of;
@@ -12,85 +11,15 @@ use std::mem::size_of;
 // An event without its call, if it has one.
 #[derive(Clone, Copy)]
 enum ShortEvent {
-    Ask {
-        client: u32,
-        request: u32,
-    },
-    Append {
-        client: u32,
-        request: u32,
-    },
-    Sync,
-    Crash {
-        kept: u32,
-    },
-    Send {
-        replica: u32,
-        number: u32,
-    },
-    Resend {
-        replica: u32,
-    },
-    To {
-        replica: u32,
-        position: u32,
-    },
-    Ack {
-        replica: u32,
-    },
-    Answer {
-        replica: u32,
-        number: u32,
-    },
-    From {
-        replica: u32,
-        position: u32,
-    },
-    Take {
-        replica: u32,
-        worker: u32,
-        index: u32,
-    },
-    Finish {
-        replica: u32,
-        worker: u32,
-    },
-    Mark {
-        replica: u32,
-        how: How,
-    },
-    Restart {
-        replica: u32,
-    },
-    Cut {
-        replica: u32,
-    },
-    Next {
-        replica: u32,
-    },
-    Have {
-        replica: u32,
-    },
-    Donor {
-        replica: u32,
-    },
-    Give {
-        donor: u32,
-        replica: u32,
-    },
-    Adopt {
-        replica: u32,
-        position: u32,
-    },
-    Audit {
-        first: u32,
-        second: u32,
-    },
+    Ask { client: u32, request: u32 },
+    Append { client: u32, request: u32 },
+    At { replica: u32, event: NodeEvent },
+    System(SystemEvent),
 }
 
-const _: () = prove!(size_of::<ShortEvent>() == 16);
+const _: () = prove!(size_of::<ShortEvent>() == 20);
 
-/// The events of a schedule, in order. Each takes 16 bytes, and calls stand in a list of their own.
+/// The events of a schedule, in order. Each takes 20 bytes, and calls stand in a list of their own.
 #[derive(Drop)]
 pub struct Events {
     short: Vec<ShortEvent>,
@@ -247,36 +176,11 @@ fn whole_event(short: ShortEvent) -> Option<Event>
         (spec.has_call short ≡ true)
         (λ event. (spec.without_call event ≡ short) × (spec.event_call event ≡ None)) }
 {
-    Some(match short {
-        ShortEvent::Ask { .. } | ShortEvent::Append { .. } => return None,
-        ShortEvent::Sync => Event::Sync,
-        ShortEvent::Crash { kept } => Event::Crash { kept },
-        ShortEvent::Send { replica, number } => Event::Send { replica, number },
-        ShortEvent::Resend { replica } => Event::Resend { replica },
-        ShortEvent::To { replica, position } => Event::To { replica, position },
-        ShortEvent::Ack { replica } => Event::Ack { replica },
-        ShortEvent::Answer { replica, number } => Event::Answer { replica, number },
-        ShortEvent::From { replica, position } => Event::From { replica, position },
-        ShortEvent::Take {
-            replica,
-            worker,
-            index,
-        } => Event::Take {
-            replica,
-            worker,
-            index,
-        },
-        ShortEvent::Finish { replica, worker } => Event::Finish { replica, worker },
-        ShortEvent::Mark { replica, how } => Event::Mark { replica, how },
-        ShortEvent::Restart { replica } => Event::Restart { replica },
-        ShortEvent::Cut { replica } => Event::Cut { replica },
-        ShortEvent::Next { replica } => Event::Next { replica },
-        ShortEvent::Have { replica } => Event::Have { replica },
-        ShortEvent::Donor { replica } => Event::Donor { replica },
-        ShortEvent::Give { donor, replica } => Event::Give { donor, replica },
-        ShortEvent::Adopt { replica, position } => Event::Adopt { replica, position },
-        ShortEvent::Audit { first, second } => Event::Audit { first, second },
-    })
+    match short {
+        ShortEvent::Ask { .. } | ShortEvent::Append { .. } => None,
+        ShortEvent::At { replica, event } => Some(Event::At { replica, event }),
+        ShortEvent::System(event) => Some(Event::System(event)),
+    }
 }
 
 // The call of an event, if it has one.
@@ -304,32 +208,7 @@ fn without_call(event: &Event) -> ShortEvent
             request,
             ..
         } => ShortEvent::Append { client, request },
-        Event::Sync => ShortEvent::Sync,
-        Event::Crash { kept } => ShortEvent::Crash { kept },
-        Event::Send { replica, number } => ShortEvent::Send { replica, number },
-        Event::Resend { replica } => ShortEvent::Resend { replica },
-        Event::To { replica, position } => ShortEvent::To { replica, position },
-        Event::Ack { replica } => ShortEvent::Ack { replica },
-        Event::Answer { replica, number } => ShortEvent::Answer { replica, number },
-        Event::From { replica, position } => ShortEvent::From { replica, position },
-        Event::Take {
-            replica,
-            worker,
-            index,
-        } => ShortEvent::Take {
-            replica,
-            worker,
-            index,
-        },
-        Event::Finish { replica, worker } => ShortEvent::Finish { replica, worker },
-        Event::Mark { replica, how } => ShortEvent::Mark { replica, how },
-        Event::Restart { replica } => ShortEvent::Restart { replica },
-        Event::Cut { replica } => ShortEvent::Cut { replica },
-        Event::Next { replica } => ShortEvent::Next { replica },
-        Event::Have { replica } => ShortEvent::Have { replica },
-        Event::Donor { replica } => ShortEvent::Donor { replica },
-        Event::Give { donor, replica } => ShortEvent::Give { donor, replica },
-        Event::Adopt { replica, position } => ShortEvent::Adopt { replica, position },
-        Event::Audit { first, second } => ShortEvent::Audit { first, second },
+        Event::At { replica, event } => ShortEvent::At { replica, event },
+        Event::System(event) => ShortEvent::System(event),
     }
 }

@@ -7,10 +7,8 @@ ghost use Rattle.schedule_text.specs.inner.LineFaults.{BlamesLine};
 ghost use Rattle.schedule_text.specs.ScheduleText.{head_of_lines, head_of_words, head_with};
 
 use crate::fault::{ScheduleLineFault, TextFault};
-use cown_bench::WORKERS;
-use sb_calls::read_number;
+use sb_calls::{REPLICAS, WORKERS, read_number};
 use sb_rows::{Words, next_line, word_is};
-use sb_sequencer::REPLICAS;
 
 // The greatest number of replicas.
 const MOST_NODES: u8 = REPLICAS as u8;

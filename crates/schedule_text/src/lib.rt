@@ -12,7 +12,7 @@ mod parsing;
 mod reading;
 mod schedule;
 
-pub use event::Event;
+pub use event::{Event, NodeEvent, SystemEvent};
 pub use event_text::read_event;
 pub use events::{EventWalk, Events};
 pub use fault::{EventFault, ScheduleLineFault, TextFault};

@@ -1,6 +1,6 @@
 -- Who has the entries that are out.
 use Rattle.std.specs.Prelude.{◌≡◌, ℕ, ◌≤◌, Option, Some, List, length}
-use Rattle.cown_bench.specs.declared.bench.TheConstants.{WORKERS}
+use Rattle.sb_calls.specs.declared.nodes.TheConstants.{WORKERS}
 use Rattle.schedule_player.specs.OneBased.{nth_item}
 use Rattle.schedule_player.specs.ReplicaMoves.{NodeOf}
 use Rattle.schedule_player.specs.Stage.{Stage, IsOut}

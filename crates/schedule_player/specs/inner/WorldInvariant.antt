@@ -4,7 +4,7 @@ use Rattle.sb_rows.specs.Balances.{Balances}
 use Rattle.sb_rows.specs.Rows.{SameCustomers}
 use Rattle.sb_calls.specs.declared.reply.Reply.{Reply}
 use Rattle.sb_sequencer.specs.Sequencer.{SequencerOf, IsSequencer}
-use Rattle.sb_sequencer.specs.declared.sequencer.TheConstants.{REPLICAS}
+use Rattle.sb_calls.specs.declared.nodes.TheConstants.{REPLICAS}
 use Rattle.schedule_player.specs.Bank.{log_reply}
 use Rattle.schedule_player.specs.inner.NodeInvariant.{IsNodeAt, machine_node}
 use Rattle.schedule_player.specs.inner.OutInHands.{OutIsInHands}

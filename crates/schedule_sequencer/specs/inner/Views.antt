@@ -1,7 +1,7 @@
 -- A durable sequencer over its file and the sequencer of the whole log.
 use Rattle.std.specs.Prelude.{◌≡◌, ℕ, ◌≤◌, length, take, drop}
 use Rattle.sb_sequencer.specs.Sequencer.{SequencerOf, IsSequencer}
-use Rattle.sb_sequencer.specs.declared.sequencer.TheConstants.{REPLICAS}
+use Rattle.sb_calls.specs.declared.nodes.TheConstants.{REPLICAS}
 use Rattle.sb_ask_log.specs.MemoryLog.{MemoryLogOf, HasAsks}
 use Rattle.schedule_sequencer.specs.DurableSequencer.{DurableSequencerOf, after_sync}
 

@@ -1,7 +1,6 @@
 -- How many replicas and workers a schedule may have.
 use Rattle.std.specs.Prelude.{ℕ, ◌≤◌}
-use Rattle.cown_bench.specs.declared.bench.TheConstants.{WORKERS}
-use Rattle.sb_sequencer.specs.declared.sequencer.TheConstants.{REPLICAS}
+use Rattle.sb_calls.specs.declared.nodes.TheConstants.{REPLICAS, WORKERS}
 
 -- from one replica, with at least one worker each, up to as many of both as a bank may have
 pub record IsHead (nodes workers : ℕ) : Type 0 where

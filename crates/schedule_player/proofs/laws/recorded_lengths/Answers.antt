@@ -1,4 +1,4 @@
-use Rattle.schedule_player.proofs.RecordedLengths.{records_played}
+use Rattle.schedule_player.proofs.logs.RecordedLengths.{records_played}
 use Rattle.schedule_player.proofs.laws.recorded_lengths.Goals as goal
 
 pub returns : goal.returns

@@ -1,4 +1,4 @@
-use Rattle.schedule_player.proofs.ReplicationLaw.{replicates}
+use Rattle.schedule_player.proofs.logs.ReplicationLaw.{replicates}
 use Rattle.schedule_player.proofs.laws.replication.Goals as goal
 
 pub returns : goal.returns

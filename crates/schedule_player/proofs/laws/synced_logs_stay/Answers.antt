@@ -1,4 +1,4 @@
-use Rattle.schedule_player.proofs.LogLaws.{synced_stay}
+use Rattle.schedule_player.proofs.logs.LogLaws.{synced_stay}
 use Rattle.schedule_player.proofs.laws.synced_logs_stay.Goals as goal
 
 pub returns : goal.returns

@@ -2,7 +2,7 @@ use Rattle.std.proofs.Common.{◌++◌, map, sym, ap, ◌∙◌}
 use Rattle.sb_rows.specs.Text.{unlines}
 use Rattle.schedule_player.specs.RunText.{states_from}
 use Rattle.schedule_text.specs.NoteText.{note_line}
-use Rattle.schedule_player.proofs.FinalStates.{both_lines}
+use Rattle.schedule_player.proofs.events.FinalStates.{both_lines}
 use Rattle.schedule_player.proofs.running.play_and_list.Goals as goal
 
 -- the notes, and then the final states

@@ -1,7 +1,7 @@
 use Rattle.std.proofs.Common.{sym, ap, subst}
 use Rattle.sb_replica.specs.States.{Adopts}
 use Rattle.schedule_player.proofs.NodeMoves.{node_fails}
-use Rattle.schedule_player.proofs.StateMoves.{goes_on, stays_ahead, adopts_wanting}
+use Rattle.schedule_player.proofs.checkpoints.StateMoves.{goes_on, stays_ahead, adopts_wanting}
 use Rattle.schedule_player.proofs.node.Node.adopt.Goals as goal
 
 pub returns-in-Ok-Adopted : goal.returns-in-Ok-Adopted

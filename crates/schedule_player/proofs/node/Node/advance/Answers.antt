@@ -4,8 +4,8 @@ use Rattle.schedule_player.specs.inner.NodeInvariant.{MovesTo, machine_node}
 use Rattle.schedule_player.specs.ReplicaMoves.{next_move}
 use Rattle.schedule_player.specs.World.{may_take_memory}
 use Rattle.schedule_player.proofs.NodeMoves.{node_fails}
-use Rattle.schedule_player.proofs.EntryOffers.{takes_next}
-use Rattle.schedule_player.proofs.FrameSteps.{advances}
+use Rattle.schedule_player.proofs.entries.EntryOffers.{takes_next}
+use Rattle.schedule_player.proofs.entries.FrameSteps.{advances}
 use Rattle.schedule_player.proofs.node.Node.advance.Goals as goal
 
 pub returns-in-Ok-Some : goal.returns-in-Ok-Some

@@ -4,8 +4,8 @@ use Rattle.cown_board.specs.declared.cut.CutFault.TheVariants.{Pending, OutOfMem
 use Rattle.schedule_player.specs.inner.NodeInvariant.{machine_node}
 use Rattle.schedule_player.proofs.Lists.{no_hand}
 use Rattle.schedule_player.proofs.NodeMoves.{node_fails}
-use Rattle.schedule_player.proofs.CheckpointSteps.{cuts_now, cuts_pending}
-use Rattle.schedule_player.proofs.MemoryRefusals.{cuts}
+use Rattle.schedule_player.proofs.checkpoints.CheckpointSteps.{cuts_now, cuts_pending}
+use Rattle.schedule_player.proofs.events.MemoryRefusals.{cuts}
 use Rattle.schedule_player.proofs.node.Node.cut.Goals as goal
 
 pub returns-in-Ok : goal.returns-in-Ok

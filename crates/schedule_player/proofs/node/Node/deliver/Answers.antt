@@ -2,7 +2,7 @@ use Rattle.std.proofs.Common.{sym, ap, subst}
 use Rattle.schedule_player.specs.inner.NodeInvariant.{MovesTo, machine_node}
 use Rattle.schedule_player.specs.ReplicaMoves.{deliver_move}
 use Rattle.schedule_player.proofs.NodeMoves.{node_fails}
-use Rattle.schedule_player.proofs.FrameSteps.{delivers, wants_delivered}
+use Rattle.schedule_player.proofs.entries.FrameSteps.{delivers, wants_delivered}
 use Rattle.schedule_player.proofs.node.Node.deliver.Goals as goal
 
 pub returns-in-Ok : goal.returns-in-Ok

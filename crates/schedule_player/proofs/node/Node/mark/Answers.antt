@@ -1,7 +1,7 @@
 use Rattle.std.proofs.Common.{Ok, subst, ap, ◌∙◌}
 use Rattle.cown_board.specs.Board.{length_of}
 use Rattle.sb_replica.specs.Marking.{Puts, IsMarkFaultOf, up_to_cut}
-use Rattle.schedule_player.proofs.CheckpointSteps.{Does, told_of, marks_well, marks_badly, marks_busy, mark_refused}
+use Rattle.schedule_player.proofs.checkpoints.CheckpointSteps.{Does, told_of, marks_well, marks_badly, marks_busy, mark_refused}
 use Rattle.schedule_player.proofs.node.Node.mark.Goals as goal
 
 pub returns-in-Ok : goal.returns-in-Ok

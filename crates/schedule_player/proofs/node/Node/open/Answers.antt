@@ -1,7 +1,7 @@
 use Rattle.std.proofs.Common.{[], sym, ap, ◌∙◌}
 use Rattle.cown_board.specs.BoardCalls.{board_at_opening}
 use Rattle.schedule_player.specs.MachineView.{stages_of}
-use Rattle.schedule_player.proofs.NodeOpening.{opens_so, opens_along}
+use Rattle.schedule_player.proofs.openings.NodeOpening.{opens_so, opens_along}
 use Rattle.schedule_player.proofs.node.Node.open.Goals as goal
 
 pub returns-clause-node : goal.returns-clause-node

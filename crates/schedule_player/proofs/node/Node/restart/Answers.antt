@@ -1,6 +1,6 @@
 use Rattle.std.proofs.Common.{subst}
 use Rattle.sb_replica.specs.Restarting.{IsRestartFaultOf}
-use Rattle.schedule_player.proofs.CheckpointSteps.{Does, goes_back, never_bad, restart_refused}
+use Rattle.schedule_player.proofs.checkpoints.CheckpointSteps.{Does, goes_back, never_bad, restart_refused}
 use Rattle.schedule_player.proofs.node.Node.restart.Goals as goal
 
 pub returns-in-Ok : goal.returns-in-Ok

@@ -1,4 +1,4 @@
-use Rattle.schedule_player.proofs.WorldLogs.{answered_by_log}
+use Rattle.schedule_player.proofs.logs.WorldLogs.{answered_by_log}
 use Rattle.schedule_player.proofs.world.World.answer_of.Goals as goal
 
 pub returns-clause-log_reply : goal.returns-clause-log_reply

@@ -11,12 +11,12 @@ use Rattle.schedule_player.specs.inner.NodeInvariant.{machine_node}
 use Rattle.schedule_player.specs.ReplicaMoves.{NodeOf}
 use Rattle.schedule_player.specs.MachineView.{ops_of}
 use Rattle.schedule_player.specs.World.{audit_if, bank_of, audit_result, may_take_memory}
-use Rattle.schedule_player.proofs.Books.{idle_rows, same_rows, idle_replies, length_replies}
-use Rattle.schedule_player.proofs.AuditResults.{LookedUp, looked_up, seen_as, busy_first, busy_second, apart, same_length, adds_books}
+use Rattle.schedule_player.proofs.observers.Books.{idle_rows, same_rows, idle_replies, length_replies}
+use Rattle.schedule_player.proofs.observers.AuditResults.{LookedUp, looked_up, seen_as, busy_first, busy_second, apart, same_length, adds_books}
 use Rattle.cown_board.proofs.LogLaws.{no_some as none_some}
-use Rattle.schedule_player.proofs.WorldStep.{on_err}
-use Rattle.schedule_player.proofs.BoardReplies.{within_log}
-use Rattle.schedule_player.proofs.Stages.{length-map}
+use Rattle.schedule_player.proofs.events.WorldStep.{on_err}
+use Rattle.schedule_player.proofs.boards.BoardReplies.{within_log}
+use Rattle.schedule_player.proofs.boards.Stages.{length-map}
 use Rattle.schedule_player.proofs.world.World.audit.Goals as goal
 use Rattle.schedule_player.proofs.world.World.audit.Goals.{After-index-2, Else-length, After-deref}
 

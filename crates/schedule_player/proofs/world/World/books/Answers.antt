@@ -5,7 +5,7 @@ use Rattle.sb_calls.specs.Net.{net_sum}
 use Rattle.sb_rows.specs.Rows.{SameCustomers}
 use Rattle.schedule_player.specs.World.{bank_of}
 use Rattle.schedule_text.specs.declared.note.AuditNote.TheVariants as audit
-use Rattle.schedule_player.proofs.Books.{books_are, books_balance}
+use Rattle.schedule_player.proofs.observers.Books.{books_are, books_balance}
 use Rattle.schedule_player.proofs.world.World.books.Goals as goal
 
 pub returns-then-found : goal.returns-then-found

@@ -2,10 +2,10 @@ use Rattle.cown_board.specs.Board.{IsAfterAll}
 use Rattle.sb_calls.specs.Behaviour.{declared_cowns, effect_of}
 use Rattle.schedule_player.specs.EventLists.{bank_after}
 use Rattle.schedule_player.specs.World.{bank_of}
-use Rattle.schedule_player.proofs.AuditResults.{looked_up}
-use Rattle.schedule_player.proofs.Observers.{lent_idle, lent_rows}
-use Rattle.schedule_player.proofs.EventLists.{played_bank}
-use Rattle.schedule_player.proofs.LongerLogs.{itself}
+use Rattle.schedule_player.proofs.observers.AuditResults.{looked_up}
+use Rattle.schedule_player.proofs.observers.Observers.{lent_idle, lent_rows}
+use Rattle.schedule_player.proofs.events.EventLists.{played_bank}
+use Rattle.schedule_player.proofs.logs.LongerLogs.{itself}
 use Rattle.schedule_player.proofs.world.World.columns.Goals as goal
 
 pub returns-clause-idle : goal.returns-clause-idle

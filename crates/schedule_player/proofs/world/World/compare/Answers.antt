@@ -1,7 +1,7 @@
 use Rattle.std.proofs.Common.{sym, ap, ◌∙◌, arith}
 use Rattle.schedule_player.specs.World.{audit_if, bank_of}
 use Rattle.schedule_text.specs.declared.note.Note.TheVariants as note
-use Rattle.schedule_player.proofs.WorldStates.{there, counted}
+use Rattle.schedule_player.proofs.checkpoints.WorldStates.{there, counted}
 use Rattle.schedule_player.proofs.world.World.compare.Goals as goal
 
 pub returns-clause-moves : goal.returns-clause-moves

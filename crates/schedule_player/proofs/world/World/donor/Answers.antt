@@ -1,5 +1,5 @@
 use Rattle.std.proofs.Common.{ap, arith, length}
-use Rattle.schedule_player.proofs.WorldStates.{no_donor}
+use Rattle.schedule_player.proofs.checkpoints.WorldStates.{no_donor}
 use Rattle.schedule_player.proofs.world.World.donor.Goals as goal
 
 pub returns-in_default : goal.returns-in_default

@@ -3,7 +3,8 @@ use Rattle.schedule_player.specs.inner.SettlingSteps.{IsAtRest, IsTrueAt}
 use Rattle.schedule_player.specs.Settling.{after_events, finish_events}
 use Rattle.schedule_player.specs.World.{world_move}
 use Rattle.schedule_text.specs.declared.event.Event.TheVariants as event
-use Rattle.schedule_player.proofs.SettledWorlds.{after_finish, hands_count, hands_emptied}
+use Rattle.schedule_text.specs.declared.event.NodeEvent.TheVariants as node_event
+use Rattle.schedule_player.proofs.hands.SettledWorlds.{after_finish, hands_count, hands_emptied}
 use Rattle.schedule_player.proofs.world.World.finish_hands.Goals as goal
 
 -- one more hand is emptied
@@ -13,9 +14,9 @@ loop-worker-preserved c =
     let r = c.args.replica in
     let k = c.loop-worker.worker in
     let next : k + 1 ≡ suc k = omega arith in
-    c.finish.ensures
-    ∙ ap (λ w. (world_move w (event.Finish r (k + 1))).0) c.loop-worker.invariant
-    ∙ ap (λ n. (world_move (after_events world (finish_events r k)) (event.Finish r n)).0) next
+    c.finish_hand.ensures
+    ∙ ap (λ w. (world_move w (event.At r (node_event.Finish (k + 1)))).0) c.loop-worker.invariant
+    ∙ ap (λ n. (world_move (after_events world (finish_events r k)) (event.At r (node_event.Finish n))).0) next
     ∙ sym (after_finish world r k)
     ∙ ap (λ n. after_events world (finish_events r n)) (sym next)
 

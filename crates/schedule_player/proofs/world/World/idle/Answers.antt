@@ -1,5 +1,5 @@
-use Rattle.schedule_player.proofs.AuditResults.{looked_up}
-use Rattle.schedule_player.proofs.Observers.{is_idle, was_idle}
+use Rattle.schedule_player.proofs.observers.AuditResults.{looked_up}
+use Rattle.schedule_player.proofs.observers.Observers.{is_idle, was_idle}
 use Rattle.schedule_player.proofs.world.World.idle.Goals as goal
 
 pub returns : goal.returns

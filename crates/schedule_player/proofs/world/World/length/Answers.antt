@@ -1,5 +1,5 @@
-use Rattle.schedule_player.proofs.AuditResults.{looked_up}
-use Rattle.schedule_player.proofs.Observers.{length_here}
+use Rattle.schedule_player.proofs.observers.AuditResults.{looked_up}
+use Rattle.schedule_player.proofs.observers.Observers.{length_here}
 use Rattle.schedule_player.proofs.world.World.length.Goals as goal
 
 pub returns : goal.returns

@@ -1,5 +1,5 @@
 use Rattle.std.proofs.Common.{[]}
-use Rattle.schedule_player.proofs.WorldOpening.{opened_so}
+use Rattle.schedule_player.proofs.openings.WorldOpening.{opened_so}
 use Rattle.schedule_player.proofs.world.World.open.Goals as goal
 
 pub invariant_of-result : goal.invariant_of-result

@@ -1,6 +1,6 @@
 use Rattle.std.proofs.Common.{subst}
 use Rattle.schedule_player.specs.LogAgreement.{WorldAgreesWithLog}
-use Rattle.schedule_player.proofs.WorldOpening.{true_to_log}
+use Rattle.schedule_player.proofs.openings.WorldOpening.{true_to_log}
 use Rattle.schedule_player.proofs.world.World.replicas.Goals as goal
 
 pub returns-clause-agrees_with_log : goal.returns-clause-agrees_with_log

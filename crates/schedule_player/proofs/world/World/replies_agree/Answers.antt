@@ -1,8 +1,8 @@
 use Rattle.schedule_player.specs.EventLists.{bank_after}
 use Rattle.schedule_player.specs.World.{bank_of}
-use Rattle.schedule_player.proofs.SameAnswers.{holds, same_answers}
-use Rattle.schedule_player.proofs.EventLists.{played_bank}
-use Rattle.schedule_player.proofs.LongerLogs.{itself}
+use Rattle.schedule_player.proofs.observers.SameAnswers.{holds, same_answers}
+use Rattle.schedule_player.proofs.events.EventLists.{played_bank}
+use Rattle.schedule_player.proofs.logs.LongerLogs.{itself}
 use Rattle.schedule_player.proofs.world.World.replies_agree.Goals as goal
 
 pub returns-clause-agree : goal.returns-clause-agree

@@ -1,6 +1,6 @@
-use Rattle.schedule_player.proofs.AuditResults.{looked_up}
-use Rattle.schedule_player.proofs.Observers.{observed_reply, reply_here}
-use Rattle.schedule_player.proofs.EventLists.{played_bank}
+use Rattle.schedule_player.proofs.observers.AuditResults.{looked_up}
+use Rattle.schedule_player.proofs.observers.Observers.{observed_reply, reply_here}
+use Rattle.schedule_player.proofs.events.EventLists.{played_bank}
 use Rattle.schedule_player.specs.EventLists.{bank_after}
 use Rattle.schedule_player.proofs.world.World.reply.Goals as goal
 

@@ -1,7 +1,7 @@
 use Rattle.std.proofs.Common.{◌≡◌, Some, length, sym, ap, ◌∙◌}
 use Rattle.schedule_player.specs.EventLists.{bank_after}
 use Rattle.schedule_player.specs.World.{bank_of}
-use Rattle.schedule_player.proofs.SameAnswers.{have_same_rows, none_found, only_rows}
+use Rattle.schedule_player.proofs.observers.SameAnswers.{have_same_rows, none_found, only_rows}
 use Rattle.schedule_player.proofs.world.World.rows_agree.Goals as goal
 use Rattle.schedule_player.proofs.world.World.rows_agree.Goals.{Else-length}
 

@@ -4,7 +4,8 @@ use Rattle.schedule_player.specs.inner.SettlingSteps.{IsAtRest, IsTrueAt}
 use Rattle.schedule_player.specs.Settling.{after_events, work_events, undone_at}
 use Rattle.schedule_player.specs.World.{WorldOf, world_move}
 use Rattle.schedule_text.specs.declared.event.Event.TheVariants as event
-use Rattle.schedule_player.proofs.SettledWorlds.{after_pair, busy_some, idle_none, left_after_pairs, pairs_count}
+use Rattle.schedule_text.specs.declared.event.NodeEvent.TheVariants as node_event
+use Rattle.schedule_player.proofs.hands.SettledWorlds.{after_pair, busy_some, idle_none, left_after_pairs, pairs_count}
 use Rattle.schedule_player.proofs.world.World.run_until_idle.Goals as goal
 
 pub idle-requires : goal.idle-requires
@@ -52,9 +53,9 @@ loop-self-preserved c =
     let next : done + 1 ≡ suc done = omega arith in
     record {
       after =
-          c.finish.ensures
-          ∙ ap (λ w. (world_move w (event.Finish r 1)).0) c.take.ensures
-          ∙ ap (λ w. (world_move (world_move w (event.Take r 1 0)).0 (event.Finish r 1)).0) is
+          c.finish_hand.ensures
+          ∙ ap (λ w. (world_move w (event.At r (node_event.Finish 1))).0) c.take_first.ensures
+          ∙ ap (λ w. (world_move (world_move w (event.At r (node_event.Take 1 0))).0 (event.At r (node_event.Finish 1))).0) is
           ∙ sym (after_pair world r done)
           ∙ ap (λ n. after_events world (work_events r n)) (sym next);
       few = omega (arith, all, some);

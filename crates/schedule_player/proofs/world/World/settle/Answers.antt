@@ -1,7 +1,7 @@
 use Rattle.std.proofs.Common.{◌+◌, ◌*◌}
 use Rattle.schedule_player.specs.Settling.{settle_events}
-use Rattle.schedule_player.proofs.EventLists.{played_on}
-use Rattle.schedule_player.proofs.SettledWorlds.{Settles, settles_so}
+use Rattle.schedule_player.proofs.events.EventLists.{played_on}
+use Rattle.schedule_player.proofs.hands.SettledWorlds.{Settles, settles_so}
 use Rattle.schedule_player.proofs.world.World.settle.Goals as goal
 
 so : (c : goal.After-run_until_idle)

@@ -1,10 +1,10 @@
 use Rattle.std.proofs.Common.{subst}
 use Rattle.schedule_player.specs.EventLists.{bank_after}
 use Rattle.schedule_player.specs.LogAgreement.{WorldAgreesWithLog}
-use Rattle.schedule_player.proofs.AuditResults.{looked_up}
-use Rattle.schedule_player.proofs.WorldStates.{state_here, state_by_log}
-use Rattle.schedule_player.proofs.EventLists.{played_bank}
-use Rattle.schedule_player.proofs.WorldOpening.{true_to_log}
+use Rattle.schedule_player.proofs.observers.AuditResults.{looked_up}
+use Rattle.schedule_player.proofs.checkpoints.WorldStates.{state_here, state_by_log}
+use Rattle.schedule_player.proofs.events.EventLists.{played_bank}
+use Rattle.schedule_player.proofs.openings.WorldOpening.{true_to_log}
 use Rattle.schedule_player.proofs.world.World.state.Goals as goal
 
 pub returns-clause-value : goal.returns-clause-value

@@ -1,4 +1,4 @@
-use Rattle.schedule_player.proofs.EventLists.{played_if, comes_if, count_if}
+use Rattle.schedule_player.proofs.events.EventLists.{played_if, comes_if, count_if}
 use Rattle.schedule_player.proofs.world.World.step.Goals as goal
 
 pub returns-clause-played : goal.returns-clause-played

@@ -1,4 +1,4 @@
-use Rattle.schedule_player.proofs.WorldOutInHands.{able_at}
+use Rattle.schedule_player.proofs.hands.WorldOutInHands.{able_at}
 use Rattle.schedule_player.proofs.world.World.workers.Goals as goal
 
 pub returns-clause-able : goal.returns-clause-able

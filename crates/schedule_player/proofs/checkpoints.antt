@@ -1,0 +1,4 @@
+pub mod CheckpointSteps
+pub mod StateMoves
+pub mod StatesOfLog
+pub mod WorldStates

@@ -1,0 +1,4 @@
+pub mod AuditResults
+pub mod Books
+pub mod Observers
+pub mod SameAnswers

@@ -1,0 +1,2 @@
+pub mod NodeOpening
+pub mod WorldOpening
