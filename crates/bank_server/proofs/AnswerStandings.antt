@@ -15,8 +15,8 @@ use Rattle.bank_server.specs.inner.AskSteps.{IsAfterAsks, AddsAsk, AddsLineAsk}
 use Rattle.bank_server.specs.AskResults.{standing_of_answer}
 use Rattle.bank_server.specs.Asks.{key_of_line, asks_with_keys}
 use Rattle.bank_server.specs.Standing.{standing_of}
-use Rattle.bank_server.specs.declared.asking.Standing.{Standing}
-use Rattle.bank_server.specs.declared.asking.Standing.TheVariants.{LogFull}
+use Rattle.bank_server.specs.declared.input.asking.Standing.{Standing}
+use Rattle.bank_server.specs.declared.input.asking.Standing.TheVariants.{LogFull}
 use Rattle.bank_server.proofs.LineKeys.{own_key, absent_from_log, full_log}
 use Rattle.bank_server.proofs.Standings.{answered_new, answered_repeat, answered_mismatch, answered_full}
 

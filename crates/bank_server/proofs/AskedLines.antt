@@ -13,7 +13,7 @@ use Rattle.bank_server.specs.Asks.{asks_with_keys, key_of_line, running_after}
 use Rattle.bank_server.specs.Input.{asks_from}
 use Rattle.bank_server.specs.Standing.{standing_of}
 use Rattle.bank_server.specs.Output.{log_of_asks}
-use Rattle.bank_server.specs.declared.asking.Standing.{Standing}
+use Rattle.bank_server.specs.declared.input.asking.Standing.{Standing}
 use Rattle.bank_server.proofs.LineKeys.{asks_with_keys_from-push, running_from-push, HaveKeys-push}
 use Rattle.bank_server.proofs.Standings.{standings_after}
 

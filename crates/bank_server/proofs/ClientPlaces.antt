@@ -15,9 +15,9 @@ use Rattle.cown_board.proofs.StateChanges.{slice_get-set_other, slice_get-set_sa
 use Rattle.bank_server.specs.Clients.{AreServed, ClientOf, End, HadManyUnread, HasBytes, IsLeft, IsReady, IsServed, PastOf, StaysReady, StaysServed, fresh_client, no_past, past_with, sends}
 use Rattle.bank_server.specs.Session.{IsFromClient}
 use Rattle.bank_server.specs.Standing.{IsStandingWithin}
-use Rattle.bank_server.specs.declared.bounds.TheConstants.{UNREAD_BYTES}
-use Rattle.bank_server.specs.declared.pending.PendingAsk.{PendingAsk}
-use Rattle.bank_server.specs.declared.session_fault.SessionFault.TheVariants.{Frame, Unexpected, CrewGone, Device, OutOfMemory, Log, TooMany}
+use Rattle.bank_server.specs.declared.session.TheConstants.{UNREAD_BYTES}
+use Rattle.bank_server.specs.declared.session.inbox.PendingAsk.{PendingAsk}
+use Rattle.bank_server.specs.declared.session.session_fault.SessionFault.TheVariants.{Frame, Unexpected, CrewGone, Device, OutOfMemory, Log, TooMany}
 use Rattle.bank_server.proofs.FrameSteps.{nothing_short}
 
 false_is_true : false ≡ true → ⊥

@@ -24,11 +24,11 @@ use Rattle.bank_server.specs.inner.AskSteps.{AddsAsk}
 use Rattle.bank_server.specs.inner.ClientSteps.{ClientState, HandlesClient, IsFrameRefusal, LeadsClient, ReachesClient, RefusesClientFrame, StopsClient, TellsDue}
 use Rattle.bank_server.specs.Pending.{pending_ask, unflushed_asks}
 use Rattle.bank_server.specs.Session.{IsFromClient, ask_of_frame, asks_in, outcome_by, outcome_of}
-use Rattle.bank_server.specs.declared.asking.Standing.{Standing}
-use Rattle.bank_server.specs.declared.pending.PendingAsk.{PendingAsk}
-use Rattle.bank_server.specs.declared.session_fault.SessionFault.{SessionFault}
-use Rattle.bank_server.specs.declared.session_fault.SessionFault.TheVariants as faults
-use Rattle.bank_server.specs.declared.session_fault.SessionFault.TheVariants.{Unexpected, CrewGone, Device, OutOfMemory, Log, TooMany}
+use Rattle.bank_server.specs.declared.input.asking.Standing.{Standing}
+use Rattle.bank_server.specs.declared.session.inbox.PendingAsk.{PendingAsk}
+use Rattle.bank_server.specs.declared.session.session_fault.SessionFault.{SessionFault}
+use Rattle.bank_server.specs.declared.session.session_fault.SessionFault.TheVariants as faults
+use Rattle.bank_server.specs.declared.session.session_fault.SessionFault.TheVariants.{Unexpected, CrewGone, Device, OutOfMemory, Log, TooMany}
 use Rattle.bank_server.proofs.FrameSteps.{bad_at}
 use Rattle.bank_server.proofs.ClientAsks.{All-behind, All-front, outcomes_kept, pending_kept, still_among}
 use Rattle.bank_server.proofs.Flushes.{all_asks, asks_push, told_all, told_same, untold_more, untold_none}

@@ -18,9 +18,9 @@ use Rattle.bank_server.specs.Clients.{ClientOf, End, HadManyUnread, HasBytes, Is
 use Rattle.bank_server.specs.Pending.{pending_ask, unflushed_asks}
 use Rattle.bank_server.specs.Session.{asks_in, flushed_asks, outcome_of}
 use Rattle.bank_server.specs.SessionResults.{IsFaultAt}
-use Rattle.bank_server.specs.declared.bounds.TheConstants.{ASKS_BEFORE_FLUSH, UNREAD_BYTES}
-use Rattle.bank_server.specs.declared.session_fault.SessionFault.{SessionFault}
-use Rattle.bank_server.specs.declared.session_fault.SessionFault.TheVariants.{Frame, Unexpected, CrewGone, Device, OutOfMemory, Log, TooMany}
+use Rattle.bank_server.specs.declared.session.TheConstants.{ASKS_BEFORE_FLUSH, UNREAD_BYTES}
+use Rattle.bank_server.specs.declared.session.session_fault.SessionFault.{SessionFault}
+use Rattle.bank_server.specs.declared.session.session_fault.SessionFault.TheVariants.{Frame, Unexpected, CrewGone, Device, OutOfMemory, Log, TooMany}
 use Rattle.bank_server.specs.inner.ClientSteps.{HandlesClient, ReachesClient, StopsClient, TellsDue}
 use Rattle.bank_server.specs.inner.ClientTurns.{HearsClient, IsServing, TellsClient, ending_of, state_of_client}
 use Rattle.bank_server.proofs.FrameSteps.{bad_at, further}

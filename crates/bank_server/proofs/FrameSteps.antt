@@ -1,5 +1,5 @@
 -- What is handled, frame after frame, and faults.
-use Rattle.std.proofs.Common.{◌≡◌, ℕ, Bool, Option, false, Result, Err, List, [], ◌++◌, refl, sym, ap, ◌∙◌, append_assoc}
+use Rattle.std.proofs.Common.{◌≡◌, ℕ, Bool, Option, false, Result, Err, List, [], ◌++◌, refl, sym, ap, ◌∙◌, append_assoc, arith}
 use Rattle.std.specs.Prelude.{◌≢◌}
 use Rattle.std.specs.List.{flat_map}
 use Rattle.std.proofs.lemmas.Grind.{flat_map-append}
@@ -15,11 +15,12 @@ use Rattle.sb_frames.specs.declared.fault.FrameFault.{FrameFault}
 use Rattle.sb_frames.specs.declared.fault.FrameFault.TheVariants.{Short}
 use Rattle.sb_frames.specs.declared.frame.Frame.{Frame}
 use Rattle.bank_server.specs.Primary.{PreservesBank, PrimaryOf}
+use Rattle.bank_server.specs.inner.NumberedAsks.{NumbersAsks}
 use Rattle.bank_server.specs.SessionResults.{IsFaultAt}
 use Rattle.bank_server.specs.SessionFaults.{LosesCrew}
-use Rattle.bank_server.specs.declared.session_fault.SessionFault.{SessionFault}
-use Rattle.bank_server.specs.declared.session_fault.SessionFault.TheVariants as faults
-use Rattle.bank_server.specs.declared.session_fault.SessionFault.TheVariants.{Unexpected, CrewGone, Device, OutOfMemory, Log, TooMany}
+use Rattle.bank_server.specs.declared.session.session_fault.SessionFault.{SessionFault}
+use Rattle.bank_server.specs.declared.session.session_fault.SessionFault.TheVariants as faults
+use Rattle.bank_server.specs.declared.session.session_fault.SessionFault.TheVariants.{Unexpected, CrewGone, Device, OutOfMemory, Log, TooMany}
 use Rattle.bank_server.proofs.Keeping.{goes_on_after}
 
 -- frames more, behind those of bytes before
@@ -38,6 +39,14 @@ keeps_on old mid new first second = record {
   rest = second.rest ∙ first.rest;
   opening = second.opening ∙ first.opening;
   keeper = goes_on_after old.keeper mid.keeper new.keeper old.log mid.log new.log first.keeper second.keeper;
+}
+
+pub numbers_on : {S K : Type 0} {keeps : K → List (Key × Call) → Type 0} {opening : K → Option (List ℕ)} {has_failed : K → Bool} (old mid new : PrimaryOf S K)
+    → NumbersAsks keeps opening has_failed old mid → NumbersAsks keeps opening has_failed mid new → NumbersAsks keeps opening has_failed old new
+numbers_on old mid new first second = record {
+  grows = omega (arith, first.grows, second.grows);
+  node = second.node ∙ first.node;
+  bank = keeps_on old mid new first.bank second.bank;
 }
 
 pub loses_behind : (keeps : Bool) (old mid : BoardOf Op) (fault : SessionFault) → (keeps ≡ false → HasNoneOut old → HasNoneOut mid) → LosesCrew keeps mid fault

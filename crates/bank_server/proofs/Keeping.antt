@@ -1,12 +1,16 @@
 -- What is kept of a log stays kept while the log grows.
-use Rattle.std.proofs.Common.{◌≡◌, ℕ, Bool, Option, Result, Ok, Err, List, [], ◌++◌, refl, sym, ap, subst, ◌∙◌, append_assoc, append-nil}
-use Rattle.std.specs.Prelude.{IfOk, OnErr}
+use Rattle.std.proofs.Common.{◌≡◌, ℕ, Bool, Option, Result, Ok, Err, List, [], ◌∷◌, ◌++◌, length, refl, sym, ap, subst, ◌∙◌, append_assoc, append-nil, arith, length-append}
 use Rattle.sb_calls.specs.declared.ask.Key.{Key}
 use Rattle.sb_calls.specs.declared.call.Call.{Call}
-use Rattle.sb_sequencer.specs.Sequencer.{SequencerOf}
+use Rattle.sb_replica.specs.Replica.{ReplicaOf, rest_of}
+use Rattle.sb_sequencer.specs.Answer.{LogAfter}
+use Rattle.sb_sequencer.specs.declared.answer.AskFault.{AskFault}
+use Rattle.sb_sequencer.specs.declared.answer.Numbered.{Numbered}
+use Rattle.sb_sequencer.specs.declared.answer.Numbered.TheVariants.{New, Repeat}
 use Rattle.sb_ask_log.specs.Keeping.{KeeperGoesOn, KeepsOn}
 use Rattle.bank_server.specs.inner.AskSteps.{ExtendsLog}
 use Rattle.bank_server.specs.Primary.{PreservesBank, PrimaryOf}
+use Rattle.bank_server.specs.inner.NumberedAsks.{NumbersAsks}
 
 module _ {K : Type 0} (keeps : K → List (Key × Call) → Type 0) where
   -- a beginning of the log is a beginning of a longer one
@@ -58,8 +62,34 @@ module _ {K : Type 0} {keeps : K → List (Key × Call) → Type 0} {opening : K
   pub stays_bank : {S : Type 0} (bank : PrimaryOf S K) → PreservesBank keeps opening has_failed bank bank
   stays_bank bank = record { rest = refl; opening = refl; keeper = same_on bank.keeper bank.keeper bank.log bank.log refl refl }
 
--- an ask extends the log, also if it fails
-pub extends_always : {T E : Type 0} (r : Result T E) (old new : SequencerOf) → IfOk r (λ t. ExtendsLog old.log new.log) → OnErr r (new ≡ old)
-    → ExtendsLog old.log new.log
-extends_always (Ok t) old new extends same = extends
-extends_always (Err e) old new extends same = ([], ap (λ (s : SequencerOf). s.log) same ∙ sym (append-nil old.log))
+  -- the log, the keeper and what node 0 has beside its board stay
+  pub kept_bank : {S : Type 0} (old new : PrimaryOf S K) → rest_of new.node ≡ rest_of old.node → new.node.board.opening ≡ old.node.board.opening
+      → new.keeper ≡ old.keeper → new.log ≡ old.log → PreservesBank keeps opening has_failed old new
+  kept_bank old new rest board keeper log = record {
+    rest = rest;
+    opening = board;
+    keeper = same_on old.keeper new.keeper old.log new.log keeper log;
+  }
+
+  -- nothing was numbered
+  pub numbers_nothing : {S : Type 0} (bank : PrimaryOf S K) → NumbersAsks keeps opening has_failed bank bank
+  numbers_nothing bank = record { grows = omega arith; node = refl; bank = stays_bank bank }
+
+  -- only the log has changed, which is the same or longer
+  pub numbers_by : {S : Type 0} (old new : PrimaryOf S K) → ExtendsLog old.log new.log → new.node ≡ old.node → new.keeper ≡ old.keeper
+      → NumbersAsks keeps opening has_failed old new
+  numbers_by {S} old new extends node keeper = record {
+    grows = omega (arith, ap length extends.1, length-append old.log extends.0);
+    node = node;
+    bank = record {
+      rest = ap (λ (r : ReplicaOf S). rest_of r) node;
+      opening = ap (λ (r : ReplicaOf S). r.board.opening) node;
+      keeper = grown_on old.keeper new.keeper old.log new.log keeper extends;
+    };
+  }
+
+-- an ask extends the log, whatever the answer
+pub extends_by_answer : (old new : List (Key × Call)) (ask : Key × Call) (answer : Result Numbered AskFault) → LogAfter old ask answer new → ExtendsLog old new
+extends_by_answer old new ask (Ok (New n)) log = (ask ∷ [], log)
+extends_by_answer old new ask (Ok (Repeat n)) log = ([], log ∙ sym (append-nil old))
+extends_by_answer old new ask (Err fault) log = ([], log ∙ sym (append-nil old))

@@ -1,16 +1,22 @@
 -- The ops of a log while a node executes them.
-use Rattle.std.proofs.Common.{◌≡◌, ℕ, zero, suc, Bool, false, Option, Some, None, List, [], ◌∷◌, ◌++◌, length, map, sym, ap, ◌∙◌, append_assoc}
+use Rattle.std.proofs.Common.{◌≡◌, ℕ, zero, suc, Bool, false, Option, Some, None, List, [], ◌∷◌, ◌++◌, length, map, sym, ap, subst, ◌∙◌, append_assoc}
 use Rattle.std.specs.Prelude.{slice_get}
 use Rattle.std.proofs.lemmas.List.{length-map}
 use Rattle.sb_calls.specs.declared.ask.Key.{Key}
 use Rattle.sb_calls.specs.declared.call.Call.{Call}
 use Rattle.sb_calls.specs.declared.op.Op.{Op}
 use Rattle.cown_board.specs.Board.{BoardOf}
-use Rattle.cown_workers.specs.Draining.{HasNoneOut}
+use Rattle.cown_workers.specs.Draining.{HasNoneOut, PreservesLog}
 use Rattle.cown_workers.specs.declared.crew_fault.CrewFault.{CrewFault}
 use Rattle.cown_workers.specs.declared.crew_fault.CrewFault.TheVariants as crew
+use Rattle.sb_replica.specs.Replica.{ReplicaOf, RestOf, rest_of}
+use Rattle.sb_rows.specs.Balances.{Balances}
+use Rattle.sb_rows.specs.Rows.{SameCustomers}
 use Rattle.sb_sequencer.specs.Numbering.{call_of_number, calls_of}
 use Rattle.bank_server.specs.Faults.{IsExecutionFault}
+use Rattle.bank_server.specs.Primary.{HasPrefixOf, log_ops}
+use Rattle.bank_server.specs.inner.Appends.{AppendsOps}
+use Rattle.bank_server.specs.inner.KeptPrimary.{IsKeptPrimary}
 use Rattle.bank_server.specs.SessionFaults.{LosesCrew}
 use Rattle.bank_server.specs.inner.FlushFaults.{session_of_crew_fault}
 
@@ -55,3 +61,44 @@ one_more_op ops log rest op is at =
 -- as many ops as calls
 pub length-ops : (f : Call → Op) (log : List (Key × Call)) → length (map f (calls_of log)) ≡ length log
 length-ops f log = length-map (calls_of log) f ∙ length-map log (λ entry. entry.1)
+
+-- ---- node 0, one op later
+
+module _ {S K : Type 0} (keeps : K → List (Key × Call) → Type 0) (log : List (Key × Call)) (keeper : K) (old new : ReplicaOf S)
+    (kept : IsKeptPrimary keeps (record { log = log; node = old; keeper = keeper })) (same : rest_of new ≡ rest_of old) where
+  names_same : new.names ≡ old.names
+  names_same = ap (λ (r : RestOf S). r.names) same
+
+  with_board : new.board.opening ≡ old.board.opening → HasPrefixOf (log_ops old.names log) new.board
+      → IsKeptPrimary keeps (record { log = log; node = new; keeper = keeper })
+  with_board opening behind = record {
+    valid = record {
+      log = kept.valid.log;
+      customers = subst (λ (ns : List (List ℕ)). SameCustomers ns new.board.opening) (sym names_same)
+          (subst (λ (b : Balances). SameCustomers old.names b) (sym opening) kept.valid.customers);
+      behind = subst (λ (ns : List (List ℕ)). HasPrefixOf (log_ops ns log) new.board) (sym names_same) behind;
+    };
+    begins = kept.begins;
+  }
+
+  -- it has put the next op
+  pub kept_by_one : (op : Op) → AppendsOps (op ∷ []) old.board new.board → slice_get (log_ops old.names log) (length old.board.log) ≡ Some op
+      → IsKeptPrimary keeps (record { log = log; node = new; keeper = keeper })
+  kept_by_one op put here =
+      let behind = kept.valid.behind in
+      let more = one_more_op (log_ops old.names log) old.board.log behind.begins.0 op behind.begins.1 here in
+      with_board put.opening (record {
+        base_replies = put.base_replies ∙ behind.base_replies;
+        uncut = put.cut ∙ behind.uncut;
+        begins = (more.0, more.1 ∙ ap (λ (l : List Op). l ++ more.0) (sym put.log));
+      })
+
+  -- it has its log still
+  pub kept_by_same : PreservesLog old.board new.board → IsKeptPrimary keeps (record { log = log; node = new; keeper = keeper })
+  kept_by_same stays =
+      let behind = kept.valid.behind in
+      with_board stays.opening (record {
+        base_replies = stays.base_replies ∙ behind.base_replies;
+        uncut = stays.cut ∙ behind.uncut;
+        begins = (behind.begins.0, behind.begins.1 ∙ ap (λ (l : List Op). l ++ behind.begins.0) (sym stays.log));
+      })

@@ -15,8 +15,8 @@ use Rattle.sb_sequencer.specs.Log.{log_with}
 use Rattle.sb_sequencer.specs.Numbering.{first_asks, has_key, index_of_key, same_key, calls_of}
 use Rattle.bank_server.specs.Session.{outcome_by, outcome_of, outcome_of_reply}
 use Rattle.bank_server.specs.Standing.{numbered_standing, same_call, standing_at, standing_of}
-use Rattle.bank_server.specs.declared.asking.Standing.{Standing}
-use Rattle.bank_server.specs.declared.asking.Standing.TheVariants.{Number, Mismatch, LogFull}
+use Rattle.bank_server.specs.declared.input.asking.Standing.{Standing}
+use Rattle.bank_server.specs.declared.input.asking.Standing.TheVariants.{Number, Mismatch, LogFull}
 
 number_is : {m n : ℕ} → Number m ≡ Number n → m ≡ n
 number_is h = cc

@@ -11,7 +11,7 @@ use Rattle.bank_server.specs.Output.{output_of}
 use Rattle.bank_server.specs.PreparedInput.{IsPreparedInputOf, output_after}
 use Rattle.bank_server.specs.Primary.{RunsLog, node_at_opening}
 use Rattle.bank_server.specs.Standing.{IsStandingWithin}
-use Rattle.bank_server.specs.declared.prepared_input.PreparedInput.{PreparedInput}
+use Rattle.bank_server.specs.declared.input.prepared_input.PreparedInput.{PreparedInput}
 use Rattle.bank_server.proofs.LogOps.{length-ops}
 use Rattle.sb_calls.specs.Op.{op_of}
 

@@ -10,7 +10,7 @@ use Rattle.sb_replica.specs.Marking.{PutsBytes, after_put}
 use Rattle.sb_replica.specs.Replica.{ReplicaOf}
 use Rattle.bank_server.specs.Saving.{IsSaveFaultOf, PutsThen, ReadsOther, Saves}
 use Rattle.bank_server.specs.inner.SaveFaults.{save_of_store_fault}
-use Rattle.bank_server.specs.declared.save_fault.SaveFault.TheVariants.{ReadBack}
+use Rattle.bank_server.specs.declared.node0.save_fault.SaveFault.TheVariants.{ReadBack}
 
 module _ {S : Type 0} (does : S → StoreStep → S → Type 0) (old mid new : ReplicaOf S) (bytes : List ℕ) (puts : PutsBytes does old bytes mid)
     (rest : new ≡ record mid { store = new.store }) (uncut : old.board.cut ≡ None) where

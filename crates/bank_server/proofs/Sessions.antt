@@ -23,9 +23,9 @@ use Rattle.bank_server.specs.SessionResults.{IsFaultAt, ServesSession, ServesUnt
 use Rattle.bank_server.specs.inner.ClientSteps.{ClientState, HandlesClient, IsFaultOfFrames, ReachesClient, StopsClient, TellsDue}
 use Rattle.bank_server.specs.inner.FlushFaults.{IsEndFault, IsFlushFault}
 use Rattle.bank_server.specs.inner.SessionSteps.{HearsSession, LeadsSession, ReachesSession, SessionState, StopsSession, WritesDue}
-use Rattle.bank_server.specs.declared.bounds.TheConstants.{ASKS_OF_SESSION}
-use Rattle.bank_server.specs.declared.session_fault.SessionFault.{SessionFault}
-use Rattle.bank_server.specs.declared.session_fault.SessionFault.TheVariants.{Frame, Unexpected, CrewGone, Device, OutOfMemory, Log, TooMany}
+use Rattle.bank_server.specs.declared.session.TheConstants.{ASKS_OF_SESSION}
+use Rattle.bank_server.specs.declared.session.session_fault.SessionFault.{SessionFault}
+use Rattle.bank_server.specs.declared.session.session_fault.SessionFault.TheVariants.{Frame, Unexpected, CrewGone, Device, OutOfMemory, Log, TooMany}
 use Rattle.bank_server.proofs.ClientSteps.{many_unflushed}
 use Rattle.bank_server.proofs.FrameSteps.{further}
 use Rattle.bank_server.proofs.OwnLog.{own_log}

@@ -27,7 +27,7 @@ use Rattle.sb_sequencer.specs.declared.answer.AskFault.TheVariants as faults
 use Rattle.sb_sequencer.specs.declared.answer.Numbered.TheVariants as numbers
 use Rattle.sb_calls.specs.declared.call.TheConstants.{LOG_CALLS}
 use Rattle.bank_server.specs.Standing.{IsStandingWithin, same_call, numbered_standing, standing_at, standing_of}
-use Rattle.bank_server.specs.declared.asking.Standing.TheVariants.{Number, Mismatch, LogFull}
+use Rattle.bank_server.specs.declared.input.asking.Standing.TheVariants.{Number, Mismatch, LogFull}
 
 -- ---- calls
 

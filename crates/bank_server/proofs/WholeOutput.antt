@@ -24,7 +24,7 @@ use Rattle.bank_server.specs.Standing.{IsStandingWithin, standing_of, standing_l
 use Rattle.bank_server.proofs.Standings.{all_among}
 use Rattle.sb_sequencer.specs.Numbering.{calls_of}
 use Rattle.bank_server.specs.Output.{log_of_asks, answer_lines, output_lines, output_of}
-use Rattle.bank_server.specs.declared.asking.Standing.{Standing}
+use Rattle.bank_server.specs.declared.input.asking.Standing.{Standing}
 use Rattle.bank_server.specs.declared.fault.InputFault.{InputFault}
 use Rattle.bank_server.specs.declared.fault.RunFault.{RunFault}
 use Rattle.bank_server.specs.declared.fault.RunFault.TheVariants as runs

@@ -6,8 +6,8 @@ use Rattle.sb_calls.specs.Cowns.{contents_of}
 use Rattle.sb_calls.specs.SerialRun.{contents_after}
 use Rattle.sb_calls.specs.declared.op.Op.{Op}
 use Rattle.cown_board.specs.Board.{BoardOf, length_of, unfinished_of, reply_in}
-use Rattle.bank_server.specs.declared.stray_reason.StrayReason.{StrayReason}
-use Rattle.bank_server.specs.declared.stray_reason.StrayReason.TheVariants.{NoThread, OutOfMemory, Frame, Unfinished, Entry, Customers, Customer}
+use Rattle.bank_server.specs.declared.followers.stray_reason.StrayReason.{StrayReason}
+use Rattle.bank_server.specs.declared.followers.stray_reason.StrayReason.TheVariants.{NoThread, OutOfMemory, Frame, Unfinished, Entry, Customers, Customer}
 
 -- what a board's cowns contain after all its entries; if it is idle, these are its columns
 abbrev pub final_contents : BoardOf Op → List ℤ

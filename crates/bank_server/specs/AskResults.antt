@@ -13,8 +13,8 @@ use Rattle.sb_sequencer.specs.declared.answer.Numbered.TheVariants.{New, Repeat}
 use Rattle.bank_server.specs.Asks.{asks_with_keys}
 use Rattle.bank_server.specs.Standing.{standing_of}
 use Rattle.bank_server.specs.Output.{log_of_asks}
-use Rattle.bank_server.specs.declared.asking.Standing.{Standing}
-use Rattle.bank_server.specs.declared.asking.Standing.TheVariants.{Number, Mismatch, LogFull}
+use Rattle.bank_server.specs.declared.input.asking.Standing.{Standing}
+use Rattle.bank_server.specs.declared.input.asking.Standing.TheVariants.{Number, Mismatch, LogFull}
 
 -- the log is that of these asks, and each ask has its standing in it
 pub record AsksGiveStandings (asks : List AskLine) (log : List (Key × Call)) (standings : List Standing) : Type 0 where

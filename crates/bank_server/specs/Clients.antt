@@ -12,10 +12,10 @@ use Rattle.sb_sequencer.specs.Numbering.{first_asks}
 use Rattle.bank_server.specs.Pending.{ArePendingWithin, pending_ask, unflushed_asks}
 use Rattle.bank_server.specs.Session.{IsFromClient, ask_of_frame, asks_in, outcomes_of}
 use Rattle.bank_server.specs.SessionResults.{IsFaultAt}
-use Rattle.bank_server.specs.declared.bounds.TheConstants.{ASKS_BEFORE_FLUSH, UNREAD_BYTES}
-use Rattle.bank_server.specs.declared.pending.PendingAsk.{PendingAsk}
-use Rattle.bank_server.specs.declared.session_fault.SessionFault.{SessionFault}
-use Rattle.bank_server.specs.declared.session_fault.SessionFault.TheVariants.{Frame, Unexpected, CrewGone, Device, OutOfMemory, Log, TooMany}
+use Rattle.bank_server.specs.declared.session.TheConstants.{ASKS_BEFORE_FLUSH, UNREAD_BYTES}
+use Rattle.bank_server.specs.declared.session.inbox.PendingAsk.{PendingAsk}
+use Rattle.bank_server.specs.declared.session.session_fault.SessionFault.{SessionFault}
+use Rattle.bank_server.specs.declared.session.session_fault.SessionFault.TheVariants.{Frame, Unexpected, CrewGone, Device, OutOfMemory, Log, TooMany}
 
 -- ---- a client
 

@@ -31,14 +31,6 @@ abbrev pub LeavesOutput : RunFault → Option (List ℕ) → Option (List ℕ) �
 LeavesOutput Device old new = Unit {0}
 LeavesOutput other old new = Keeps old new
 
--- a fault's number
-abbrev pub run_fault_number : RunFault → ℕ
-run_fault_number (Input line fault) = 1
-run_fault_number (Strayed node reason) = 2
-run_fault_number CrewGone = 3
-run_fault_number Device = 4
-run_fault_number OutOfMemory = 5
-
 -- memory was refused, or the crew is gone; a crew that keeps no job is never gone if no op was out
 abbrev pub IsExecutionFault : Bool → BoardOf Op → CrewFault → Type 0
 IsExecutionFault keeps board crew.CrewGone = keeps ≡ false → ¬ HasNoneOut board

@@ -6,7 +6,7 @@ use Rattle.sb_calls.specs.declared.call.Call.{Call}
 use Rattle.sb_frames.specs.declared.frame.Frame as frames
 use Rattle.bank_server.specs.Session.{is_flush, asks_in}
 use Rattle.bank_server.specs.Standing.{IsStandingWithin, standing_of}
-use Rattle.bank_server.specs.declared.pending.PendingAsk.{PendingAsk}
+use Rattle.bank_server.specs.declared.session.inbox.PendingAsk.{PendingAsk}
 
 -- the asks that no flush follows
 abbrev pub unflushed_asks : List frames.Frame → List (Key × Call)

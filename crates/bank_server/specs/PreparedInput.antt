@@ -11,8 +11,8 @@ use Rattle.bank_server.specs.Execution.{HasNoEntries}
 use Rattle.sb_sequencer.specs.Numbering.{calls_of}
 use Rattle.bank_server.specs.Output.{output_of}
 use Rattle.bank_server.specs.Standing.{IsStandingWithin, standing_line}
-use Rattle.bank_server.specs.declared.asking.Standing.{Standing}
-use Rattle.bank_server.specs.declared.prepared_input.PreparedInput.{PreparedInput}
+use Rattle.bank_server.specs.declared.input.asking.Standing.{Standing}
+use Rattle.bank_server.specs.declared.input.prepared_input.PreparedInput.{PreparedInput}
 
 -- the lines for asks with these standings in a log of these calls, and then the rows after it with
 -- their total

@@ -9,15 +9,8 @@ use Rattle.sb_checkpoint.specs.declared.store.StoreFault.TheVariants as store
 use Rattle.sb_replica.specs.Marking.{IsMarkFaultOf, Puts}
 use Rattle.sb_replica.specs.Replica.{ReplicaOf, origin_of, board_replies}
 use Rattle.sb_replica.specs.declared.fault.MarkFault.TheVariants as mark
-use Rattle.bank_server.specs.declared.save_fault.SaveFault.{SaveFault}
-use Rattle.bank_server.specs.declared.save_fault.SaveFault.TheVariants.{Device, ReadBack, OutOfMemory, Busy}
-
--- a fault's number
-abbrev pub save_fault_number : SaveFault → ℕ
-save_fault_number Device = 1
-save_fault_number ReadBack = 2
-save_fault_number OutOfMemory = 3
-save_fault_number Busy = 4
+use Rattle.bank_server.specs.declared.node0.save_fault.SaveFault.{SaveFault}
+use Rattle.bank_server.specs.declared.node0.save_fault.SaveFault.TheVariants.{Device, ReadBack, OutOfMemory, Busy}
 
 -- something else was read back, or nothing
 abbrev pub ReadsOther : List ℕ → StoreStep → Type 0

@@ -12,8 +12,8 @@ use Rattle.sb_frames.specs.declared.frame.Frame.{Frame}
 use Rattle.sb_frames.specs.declared.frame.Frame.TheVariants.{Ask, Entry, Ack, Answer, Outcome, Flush, Have}
 use Rattle.sb_sequencer.specs.Numbering.{IsLog, first_asks, calls_of, index_of_key}
 use Rattle.bank_server.specs.Standing.{standing_of}
-use Rattle.bank_server.specs.declared.asking.Standing.{Standing}
-use Rattle.bank_server.specs.declared.asking.Standing.TheVariants.{Number, Mismatch, LogFull}
+use Rattle.bank_server.specs.declared.input.asking.Standing.{Standing}
+use Rattle.bank_server.specs.declared.input.asking.Standing.TheVariants.{Number, Mismatch, LogFull}
 
 -- a client sends asks and flushes, and nothing else
 abbrev pub IsFromClient : Frame → Type 0

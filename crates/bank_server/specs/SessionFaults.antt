@@ -4,8 +4,8 @@ use Rattle.cown_board.specs.Board.{BoardOf}
 use Rattle.cown_workers.specs.Draining.{HasNoneOut}
 use Rattle.sb_ask_log.specs.Keeping.{IsKeepFault}
 use Rattle.sb_calls.specs.declared.op.Op.{Op}
-use Rattle.bank_server.specs.declared.session_fault.SessionFault.{SessionFault}
-use Rattle.bank_server.specs.declared.session_fault.SessionFault.TheVariants.{Frame, Unexpected, CrewGone, Device, OutOfMemory, Log, TooMany}
+use Rattle.bank_server.specs.declared.session.session_fault.SessionFault.{SessionFault}
+use Rattle.bank_server.specs.declared.session.session_fault.SessionFault.TheVariants.{Frame, Unexpected, CrewGone, Device, OutOfMemory, Log, TooMany}
 
 -- a fault's number
 abbrev pub session_fault_number : SessionFault → ℕ

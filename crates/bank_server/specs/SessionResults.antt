@@ -10,9 +10,9 @@ use Rattle.sb_frames.specs.Grammar.{IsFrame, spelling}
 use Rattle.sb_frames.specs.declared.frame.Frame as frames
 use Rattle.bank_server.specs.Pending.{unflushed_asks}
 use Rattle.bank_server.specs.Session.{IsAskFrame, IsFromClient, log_of_session, outcomes_of}
-use Rattle.bank_server.specs.declared.bounds.TheConstants.{ASKS_OF_SESSION}
-use Rattle.bank_server.specs.declared.session_fault.SessionFault.{SessionFault}
-use Rattle.bank_server.specs.declared.session_fault.SessionFault.TheVariants.{Frame, Unexpected, CrewGone, Device, OutOfMemory, Log, TooMany}
+use Rattle.bank_server.specs.declared.session.TheConstants.{ASKS_OF_SESSION}
+use Rattle.bank_server.specs.declared.session.session_fault.SessionFault.{SessionFault}
+use Rattle.bank_server.specs.declared.session.session_fault.SessionFault.TheVariants.{Frame, Unexpected, CrewGone, Device, OutOfMemory, Log, TooMany}
 
 -- the log is that of a session of these frames, and the output is the spelling of their outcomes
 pub record WritesOutcomes (opening : Rows) (before : List (Key × Call)) (frames : List frames.Frame)

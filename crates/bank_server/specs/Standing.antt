@@ -8,8 +8,8 @@ use Rattle.sb_calls.specs.declared.call.Call.{Call}
 use Rattle.sb_calls.specs.declared.call.Call.TheVariants.{Balance, DepositChecking, TransactSavings, Amalgamate, WriteCheck, SendPayment}
 use Rattle.sb_calls.specs.declared.reply.Reply.{Reply}
 use Rattle.sb_sequencer.specs.Numbering.{index_of_key}
-use Rattle.bank_server.specs.declared.asking.Standing.{Standing}
-use Rattle.bank_server.specs.declared.asking.Standing.TheVariants.{Number, Mismatch, LogFull}
+use Rattle.bank_server.specs.declared.input.asking.Standing.{Standing}
+use Rattle.bank_server.specs.declared.input.asking.Standing.TheVariants.{Number, Mismatch, LogFull}
 
 -- whether two calls are the same
 unfoldable pub same_call : Call → Call → Bool

@@ -4,6 +4,7 @@ pub mod ClientSteps
 pub mod ClientTurns
 pub mod FlushFaults
 pub mod KeptPrimary
+pub mod NumberedAsks
 pub mod RunFaults
 pub mod SaveFaults
 pub mod SessionSteps

@@ -10,8 +10,7 @@ ghost use Rattle.bank_server.specs.Execution.{IsOneByOne, HasReplies};
 ghost use Rattle.bank_server.specs.PreparedInput.{output_after};
 ghost use Rattle.bank_server.specs.Standing.{IsStandingWithin, standing_line, reply_line};
 
-use crate::asking::Standing;
-use crate::log_number::LogNumber;
+use crate::input::{LogNumber, Standing};
 use cown_board::Runs;
 use itoa::{Buffer, write_digits};
 use sb_calls::{Reply, replies_are_short, write_reply};

@@ -1,10 +1,9 @@
 //! Why a run ends without its output.
 ghost use Rattle.std.specs.Prelude.{◌≡◌};
-ghost use Rattle.bank_server.specs.Faults.{run_fault_number};
 ghost use Rattle.bank_server.specs.inner.RunFaults.{run_of_crew_fault, run_of_opening_fault, run_of_read_fault};
 ghost use Rattle.bank_server.specs.declared.fault.RunFault.TheVariants.{OutOfMemory};
 
-use crate::stray_reason::StrayReason;
+use crate::followers::StrayReason;
 use cown_workers::CrewFault;
 use sb_calls::CallFault;
 use sb_rows::{LineFault, OpeningFault};
@@ -47,21 +46,6 @@ pub enum RunFault {
     /// Memory was refused. Nothing was written.
     #[error("out of memory")]
     OutOfMemory,
-}
-
-impl RunFault {
-    /// The number of the fault.
-    pub fn number(&self) -> u8
-        ensures { result ≡ run_fault_number self.now }
-    {
-        match self {
-            RunFault::Input { .. } => 1,
-            RunFault::Strayed(..) => 2,
-            RunFault::CrewGone => 3,
-            RunFault::Device => 4,
-            RunFault::OutOfMemory => 5,
-        }
-    }
 }
 
 impl From<ReadFault> for RunFault {

@@ -3,7 +3,7 @@ ghost use Rattle.bank_server.specs.AskResults.{AnswersAreFinal};
 ghost use Rattle.bank_server.specs.Session.{ToldOutcomesStand};
 ghost use Rattle.std.specs.Prelude.{◌≡◌};
 
-use crate::bounds::{ASKS_BEFORE_FLUSH, ASKS_OF_SESSION, READ_BYTES, UNREAD_BYTES};
+use crate::session::{ASKS_BEFORE_FLUSH, ASKS_OF_SESSION, READ_BYTES, UNREAD_BYTES};
 
 /// The sequencer's answer to an ask (a new number, a repeat, a mismatch or a full log) is its
 /// standing in the log for good, and so in the output, whatever is asked after it.

@@ -2,60 +2,23 @@
 //! inputs.
 #![tactic(auto)]
 
-mod agreement;
 mod answers;
-mod arrivals;
-mod asking;
-mod bounds;
-mod boxed_replica;
-mod catching_up;
-mod client;
-mod clients;
-mod execution;
 mod fault;
-mod follower;
-mod follower_threads;
 mod followers;
-mod frames;
-mod inbox;
+mod input;
 mod laws;
-mod log_number;
-mod outcome_frames;
-mod pending;
-mod places;
-mod prepared_input;
-mod primary;
-mod ready_followers;
-mod resolving;
+mod node0;
 mod run;
-mod save_fault;
-mod saving;
 mod session;
-mod session_fault;
-mod stray_reason;
-mod team;
-mod telling;
-mod turns;
-mod whole_log;
 
-pub use agreement::{agree, difference};
 pub use answers::{push_answers, push_output};
-pub use arrivals::{Arrival, Arrivals};
-pub use asking::{Standing, ask_lines};
-pub use bounds::{ASKS_BEFORE_FLUSH, ASKS_OF_SESSION, READ_BYTES, UNREAD_BYTES};
-pub use clients::Clients;
 pub use fault::{InputFault, RunFault};
-pub use followers::{Followers, with_followers};
+pub use followers::{Followers, ReadyFollowers, StrayReason, agree, difference, with_followers};
+pub use input::{LogNumber, PreparedInput, Standing, ask_lines, prepare};
 pub use laws::{answers_are_final, client_bounds, told_outcomes_stand};
-pub use log_number::LogNumber;
-pub use pending::PendingAsk;
-pub use prepared_input::{PreparedInput, prepare};
-pub use primary::Primary;
-pub use ready_followers::ReadyFollowers;
+pub use node0::{Duty, Primary, SaveFault, WorkerCount, carry_out_log, with_team};
 pub use run::run_text;
-pub use save_fault::SaveFault;
-pub use session::serve_session;
-pub use session_fault::SessionFault;
-pub use stray_reason::StrayReason;
-pub use team::{Duty, WorkerCount, with_team};
-pub use whole_log::carry_out_log;
+pub use session::{
+    ASKS_BEFORE_FLUSH, ASKS_OF_SESSION, Arrival, Arrivals, Clients, PendingAsk, READ_BYTES,
+    SessionFault, UNREAD_BYTES, serve_session,
+};

@@ -6,9 +6,9 @@ ghost use Rattle.bank_server.specs.PreparedInput.{IsPreparedInputOf};
 
 use crate::answers::push_output;
 use crate::fault::RunFault;
-use crate::prepared_input::{PreparedInput, prepare};
-use crate::ready_followers::ReadyFollowers;
-use crate::whole_log::carry_out_log;
+use crate::followers::ReadyFollowers;
+use crate::input::{PreparedInput, prepare};
+use crate::node0::carry_out_log;
 use cown_bench::WORKERS;
 use cown_workers::Gate;
 use sb_sequencer::REPLICAS;

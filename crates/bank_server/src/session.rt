@@ -1,215 +1,30 @@
-//! A client's session.
-ghost use Rattle.std.specs.Prelude.{◌≡◌, ◌≤◌, ◌+◌, [], length, false, IfErr, IfSome, OnOk};
-ghost use Rattle.cown_workers.specs.Draining.{HasNoneOut};
-ghost use Rattle.sb_frames.specs.Streaming.{IsShort};
-ghost use Rattle.bank_server.specs.Pending.{ArePendingWithin};
-ghost use Rattle.bank_server.specs.Primary.{HasWholeLog, PreservesBank, opening_rows_of};
-ghost use Rattle.bank_server.specs.inner.FlushFaults.{IsEndFault, IsFlushFault};
-ghost use Rattle.bank_server.specs.inner.SessionSteps.{LeadsSession, StopsSession, WritesDue, session_state};
-ghost use Rattle.bank_server.specs.SessionFaults.{IsClientFault, LosesCrew, LosesLog};
-ghost use Rattle.bank_server.specs.SessionResults.{ServesSession, ServesUntilFault};
+//! Clients of a served bank: one alone, or many at once.
 
-use crate::bounds::ASKS_OF_SESSION;
-use crate::inbox::{Inbox, take_bytes};
-use crate::primary::Primary;
-use crate::session_fault::SessionFault;
-use crate::telling::{settle_and_keep, tell};
-use cown_workers::Crew;
-use sb_ask_log::Keeper;
-use sb_checkpoint::CheckpointStore;
-use sb_frames::FrameFault;
-use sb_text::READS;
-use std::alloc::Global;
-use std::io::{ErrorKind, Read, Write};
+mod arrivals;
+mod client;
+mod clients;
+mod inbox;
+mod outcome_frames;
+mod places;
+mod session_fault;
+mod single_session;
+mod telling;
+mod turns;
 
-// How many bytes one read asks for.
-const CHUNK: usize = 65_536;
+pub use arrivals::{Arrival, Arrivals};
+pub use clients::Clients;
+pub use inbox::PendingAsk;
+pub use session_fault::SessionFault;
+pub use single_session::serve_session;
 
-/// Serves one client, from its first byte to its last. Each ask is numbered and offered to node 0.
-/// After a read with a flush node 0 executes the whole log, and the client gets the outcome of each
-/// ask since the previous flush, up to the last flush of the read.
-///
-/// Every whole frame that was read is handled before the next read. Asks after the last flush are
-/// numbered and executed, but their client gets no outcome.
-///
-/// Fails with
-/// - [`SessionFault::Frame`] if bytes come that no frame begins with, or the last frame isn't
-///   whole,
-/// - [`SessionFault::Unexpected`] if a frame comes that is neither an ask nor a flush,
-/// - [`SessionFault::TooMany`] if an ask comes and [`crate::ASKS_OF_SESSION`] wait for a flush,
-/// - [`SessionFault::CrewGone`] if the crew leaves something unfinished,
-/// - [`SessionFault::Device`] if a read or a write fails, or the client takes more than [`READS`]
-///   reads,
-/// - [`SessionFault::OutOfMemory`] if memory is refused,
-/// - [`SessionFault::Log`] if the log can't be kept, in place of any other fault.
-///
-/// The log has what was numbered by then. It is kept before an outcome is told, and at the end,
-/// also after a fault of the client: then another session can be served.
-pub fn serve_session<R: Read, W: Write, S: CheckpointStore, K: Keeper, C: Crew>(
-    alloc: Global,
-    reader: &mut R,
-    writer: &mut W,
-    primary: &mut Primary<S, K>,
-    crew: &mut C,
-) -> Result<(), SessionFault>
-    // Everything that was read was asks and flushes; the log is that of the session, and its
-    // outcomes are written.
-    ensures served { OnOk result (IfSome (R.remaining reader.old) (ServesSession (opening_rows_of primary.old)
-        primary.old.log primary.new.log (W.contents writer.old) (W.contents writer.new))) }
-    ensures whole_log { OnOk result (HasWholeLog primary.new) }
-    // After a fault the log is that of the first frames of the session, and the fault came after
-    // them.
-    ensures cut_short { IfErr result (λ fault. IfSome (R.remaining reader.old) (λ input.
-        ServesUntilFault (opening_rows_of primary.old) primary.old.log primary.new.log (W.contents writer.old)
-        (W.contents writer.new) input fault)) }
-    // The whole log is kept, also after a fault of the client.
-    ensures kept { OnOk result (K.Keeps primary.new.keeper primary.new.log) }
-    ensures kept_after_fault { IfErr result (λ fault. IsClientFault fault
-        → K.Keeps primary.new.keeper primary.new.log) }
-    ensures bank { PreservesBank K.Keeps K.opening K.has_failed primary.old primary.new }
-    // A crew that keeps no job leaves none out, after a fault too.
-    ensures none_out { C.keeps ≡ false → HasNoneOut primary.old.node.board → HasNoneOut primary.new.node.board }
-    ensures crew_lost { IfErr result (LosesCrew C.keeps primary.old.node.board) }
-    ensures log_lost { IfErr result (LosesLog K.fails (K.has_failed primary.new.keeper)) }
-{
-    let served = serve_frames(alloc, reader, writer, primary, crew);
-    // What was numbered is kept, whatever ended the session.
-    primary.keep()?;
-    served
-}
+/// The most asks of a client that may wait for a flush of its own, if it is served beside others.
+pub const ASKS_BEFORE_FLUSH: usize = 65_536;
 
-// Serves one client, up to its last byte or to a fault. Asks after the last flush aren't kept yet.
-fn serve_frames<R: Read, W: Write, S: CheckpointStore, K: Keeper, C: Crew>(
-    alloc: Global,
-    reader: &mut R,
-    writer: &mut W,
-    primary: &mut Primary<S, K>,
-    crew: &mut C,
-) -> Result<(), SessionFault>
-    ensures served { OnOk result (IfSome (R.remaining reader.old) (ServesSession (opening_rows_of primary.old)
-        primary.old.log primary.new.log (W.contents writer.old) (W.contents writer.new))) }
-    ensures whole_log { OnOk result (HasWholeLog primary.new) }
-    ensures cut_short { IfErr result (λ fault. IfSome (R.remaining reader.old) (λ input.
-        ServesUntilFault (opening_rows_of primary.old) primary.old.log primary.new.log (W.contents writer.old)
-        (W.contents writer.new) input fault)) }
-    ensures bank { PreservesBank K.Keeps K.opening K.has_failed primary.old primary.new }
-    ensures none_out { C.keeps ≡ false → HasNoneOut primary.old.node.board → HasNoneOut primary.new.node.board }
-    ensures crew_lost { IfErr result (LosesCrew C.keeps primary.old.node.board) }
-    ensures log_lost { IfErr result (LosesLog K.fails (K.has_failed primary.new.keeper)) }
-{
-    primary.settle(crew)?;
-    let mut inbox = Inbox::new(alloc);
-    let mut outcomes: Vec<u8> = Vec::new(alloc);
-    let mut chunk = [0u8; CHUNK];
-    for _ in 0..READS {
-        match reader.read(&mut chunk) {
-            Ok(0) => return end(&inbox, primary, crew),
-            Ok(count) => serve_bytes(
-                &chunk[..count],
-                &mut inbox,
-                &mut outcomes,
-                writer,
-                primary,
-                crew,
-            )?,
-            Err(error) => {
-                if error.kind() != ErrorKind::Interrupted {
-                    return Err(SessionFault::Device);
-                }
-            }
-        }
-    }
-    Err(SessionFault::Device)
-}
+/// The most asks of a client that may wait for a flush, if it is served alone.
+pub const ASKS_OF_SESSION: usize = 2_000_000;
 
-// Takes the bytes of one read, and writes what a flush among them makes due, also if a fault of the
-// client comes behind it.
-fn serve_bytes<W: Write, S: CheckpointStore, K: Keeper, C: Crew>(
-    bytes: &[u8],
-    inbox: &mut Inbox,
-    outcomes: &mut Vec<u8>,
-    writer: &mut W,
-    primary: &mut Primary<S, K>,
-    crew: &mut C,
-) -> Result<(), SessionFault>
-    requires within { ArePendingWithin (length primary.old.log) inbox.old.pending.items }
-    requires none_due { inbox.old.due ≡ 0 }
-    requires few { length inbox.old.pending.items ≤ ASKS_OF_SESSION }
-    requires healthy { inbox.old.stream.failed ≡ false }
-    ensures within { OnOk result (ArePendingWithin (length primary.new.log) inbox.new.pending.items) }
-    ensures none_due { OnOk result (inbox.new.due ≡ 0) }
-    ensures few { OnOk result (length inbox.new.pending.items ≤ ASKS_OF_SESSION) }
-    ensures short { OnOk result (IsShort inbox.new.stream) }
-    ensures leads { OnOk result (LeadsSession (opening_rows_of primary.old)
-        (session_state primary.old.log inbox.old (W.contents writer.old)) inbox.old.stream.unread bytes.now
-        (session_state primary.new.log inbox.new (W.contents writer.new)) inbox.new.stream.unread) }
-    ensures stops { IfErr result (λ fault. StopsSession (opening_rows_of primary.old)
-        (session_state primary.old.log inbox.old (W.contents writer.old)) inbox.old.stream.unread bytes.now fault
-        (session_state primary.new.log inbox.new (W.contents writer.new))) }
-    ensures bank { PreservesBank K.Keeps K.opening K.has_failed primary.old primary.new }
-    ensures none_out { C.keeps ≡ false → HasNoneOut primary.old.node.board → HasNoneOut primary.new.node.board }
-    ensures crew_lost { IfErr result (LosesCrew C.keeps primary.old.node.board) }
-    ensures log_lost { IfErr result (LosesLog K.fails (K.has_failed primary.new.keeper)) }
-{
-    let taken = take_bytes(bytes, ASKS_OF_SESSION, inbox, primary);
-    write_due(inbox, outcomes, writer, primary, crew)?;
-    taken?;
-    primary.offer_rest(crew)
-}
+/// The most bytes of outcomes that a client may leave unread.
+pub const UNREAD_BYTES: usize = 4_194_304;
 
-// Writes the outcomes that are due, once the whole log is executed and kept.
-fn write_due<W: Write, S: CheckpointStore, K: Keeper, C: Crew>(
-    inbox: &mut Inbox,
-    outcomes: &mut Vec<u8>,
-    writer: &mut W,
-    primary: &mut Primary<S, K>,
-    crew: &mut C,
-) -> Result<(), SessionFault>
-    requires within { ArePendingWithin (length primary.old.log) inbox.old.pending.items }
-    requires due { inbox.old.due ≤ length inbox.old.pending.items }
-    ensures within { OnOk result (ArePendingWithin (length primary.new.log) inbox.new.pending.items) }
-    ensures none_due { OnOk result (inbox.new.due ≡ 0) }
-    ensures fewer { OnOk result (length inbox.new.pending.items + inbox.old.due ≡ length inbox.old.pending.items) }
-    ensures writes { OnOk result (WritesDue (opening_rows_of primary.old)
-        (session_state primary.old.log inbox.old (W.contents writer.old))
-        (session_state primary.new.log inbox.new (W.contents writer.new))) }
-    ensures stream { inbox.new.stream ≡ inbox.old.stream }
-    ensures log { primary.new.log ≡ primary.old.log }
-    ensures fault { IfErr result IsFlushFault }
-    ensures bank { PreservesBank K.Keeps K.opening K.has_failed primary.old primary.new }
-    ensures none_out { C.keeps ≡ false → HasNoneOut primary.old.node.board → HasNoneOut primary.new.node.board }
-    ensures crew_lost { IfErr result (LosesCrew C.keeps primary.old.node.board) }
-    ensures log_lost { IfErr result (LosesLog K.fails (K.has_failed primary.new.keeper)) }
-{
-    if inbox.due == 0 {
-        return Ok(());
-    }
-    settle_and_keep(primary, crew)?;
-    outcomes.clear();
-    inbox.push_due(primary, outcomes)?;
-    if tell(writer, outcomes, primary).is_err() {
-        return Err(SessionFault::Device);
-    }
-    Ok(())
-}
-
-// Ends a session at the end of what its client sent.
-fn end<S: CheckpointStore, K: Keeper, C: Crew>(
-    inbox: &Inbox,
-    primary: &mut Primary<S, K>,
-    crew: &mut C,
-) -> Result<(), SessionFault>
-    ensures whole { OnOk result (inbox.now.stream.unread ≡ []) }
-    ensures whole_log { OnOk result (HasWholeLog primary.new) }
-    ensures log { primary.new.log ≡ primary.old.log }
-    ensures fault { IfErr result (IsEndFault inbox.now.stream) }
-    ensures bank { PreservesBank K.Keeps K.opening K.has_failed primary.old primary.new }
-    ensures none_out { C.keeps ≡ false → HasNoneOut primary.old.node.board → HasNoneOut primary.new.node.board }
-    ensures crew_lost { IfErr result (LosesCrew C.keeps primary.old.node.board) }
-    ensures log_lost { IfErr result (LosesLog K.fails (K.has_failed primary.new.keeper)) }
-{
-    if !inbox.stream.ended() {
-        return Err(SessionFault::Frame(FrameFault::Short));
-    }
-    primary.settle(crew)
-}
+/// The most bytes of a client that a turn takes in one read.
+pub const READ_BYTES: usize = 65_536;

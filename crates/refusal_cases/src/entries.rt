@@ -5,6 +5,7 @@ use crate::fault::CaseFault;
 use crate::frames::feed;
 use crate::opening::read;
 use crate::report::Report;
+use cown_board::Runs;
 use cown_workers::{InlineCrew, drain};
 use sb_calls::{Call, Reply};
 use sb_checkpoint::MemoryStore;

@@ -14,9 +14,9 @@ use thiserror::Error;
 /// Why a case goes wrong. For `OutOfMemory`, a call that was repeated was refused memory again.
 #[derive(Clone, Copy, Debug, Error)]
 pub enum CaseFault {
-    /// A run ends without its output, with the fault of this number.
-    #[error("run fault {0}")]
-    Run(u8),
+    /// A run ends without its output, for this reason.
+    #[error("run: {0}")]
+    Run(&'static str),
     /// An opening isn't read.
     #[error(transparent)]
     Opening(#[from] OpeningFault),
@@ -46,9 +46,16 @@ pub enum CaseFault {
     OutOfMemory(#[from(alloc)] AllocError),
 }
 
+// Where a function has many kinds of faults, the checker isn't told of all types within a run's.
 impl From<RunFault> for CaseFault {
     fn from(fault: RunFault) -> CaseFault {
-        CaseFault::Run(fault.number())
+        CaseFault::Run(match fault {
+            RunFault::Input { .. } => "its input is faulty",
+            RunFault::Strayed(..) => "a follower strayed",
+            RunFault::CrewGone => "crew gone",
+            RunFault::Device => "device",
+            RunFault::OutOfMemory => "out of memory",
+        })
     }
 }
 

@@ -1,4 +1,5 @@
-//! `refusal_cases`: plays cases in which memory may be refused at any place, for `bench/refusals`.
+//! `refusal_cases`: plays cases in which memory may be refused at any place, for
+//! `bench/faults/refusals`.
 #![tactic(auto)]
 
 use fault::{CaseFault, Fault};

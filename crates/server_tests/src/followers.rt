@@ -1,6 +1,6 @@
 //! Followers of a bank that is served.
 ghost use Rattle.std.specs.Prelude.{◌≡◌, ◌≤◌, ◌<◌, ◌+◌};
-ghost use Rattle.sb_sequencer.specs.declared.sequencer.TheConstants.{REPLICAS};
+ghost use Rattle.sb_calls.specs.declared.nodes.TheConstants.{REPLICAS};
 
 use crate::bank::{OPENING, OTHER_OPENING, expect, opened, opened_at};
 use crate::wire::{BALANCE, DEPOSIT, DONE, FLUSH, SHOWN, serve};

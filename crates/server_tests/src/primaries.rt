@@ -2,6 +2,7 @@
 use crate::bank::{expect, opened};
 use crate::wire::{ENTRY, expect_session};
 use bank_server::{Primary, SessionFault, Standing, ask_lines};
+use cown_board::Runs;
 use cown_workers::InlineCrew;
 use sb_calls::{Reply, read_call};
 use sb_checkpoint::MemoryStore;

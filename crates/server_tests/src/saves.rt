@@ -4,6 +4,7 @@ use crate::devices::BytewiseReader;
 use crate::stores::{Habit, HabitualStore};
 use crate::wire::{BALANCE, DEPOSIT, DONE, FLUSH, SHOWN, serve};
 use bank_server::{Primary, SaveFault, SessionFault, serve_session};
+use cown_board::Runs;
 use cown_workers::InlineCrew;
 use sb_checkpoint::{
     CheckpointStore, FileStore, FileWithSpare, FolderFile, MemoryStore, StoreFault,

@@ -3,6 +3,7 @@ use crate::bank::{expect, expect_bytes, joined, opened};
 use crate::devices::{BytewiseReader, HaltingReader, Hitch, InterruptedReader, NarrowWriter};
 use crate::wire::{BALANCE, DEPOSIT, DONE, FLUSH, SHOWN, serve};
 use bank_server::{Primary, SessionFault, serve_session};
+use cown_board::Runs;
 use cown_workers::InlineCrew;
 use sb_checkpoint::MemoryStore;
 use std::alloc::Global;

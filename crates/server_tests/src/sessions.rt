@@ -5,6 +5,7 @@ use crate::wire::{
     BALANCE, DEPOSIT, DONE, ENTRY, FLUSH, HAVE, MISMATCH, OTHER, SHOWN, expect_session, push_with,
 };
 use bank_server::{Primary, SessionFault, serve_session};
+use cown_board::Runs;
 use cown_workers::{Crew, InlineCrew, OpenGate, with_crew};
 use sb_checkpoint::MemoryStore;
 use sb_frames::FrameFault;

@@ -1,4 +1,4 @@
-//! Stores that lie or fail.
+//! Stores that fail, or don't keep what they say.
 use sb_checkpoint::{CheckpointStore, StoreFault};
 use std::alloc::Global;
 

@@ -14,7 +14,7 @@ use Rattle.bank_server.specs.Asks.{asks_with_keys, key_of_line, running_after}
 use Rattle.bank_server.specs.LogNumber.{IsLogNumber}
 use Rattle.bank_server.specs.Standing.{standing_of}
 use Rattle.bank_server.specs.Output.{log_of_asks}
-use Rattle.bank_server.specs.declared.asking.Standing.{Standing}
+use Rattle.bank_server.specs.declared.input.asking.Standing.{Standing}
 use Rattle.bank_server.specs.declared.fault.RunFault.{RunFault}
 use Rattle.bank_server.specs.declared.fault.RunFault.TheVariants.{OutOfMemory}
 

@@ -11,10 +11,10 @@ use Rattle.sb_sequencer.specs.Numbering.{first_asks}
 use Rattle.bank_server.specs.Pending.{pending_ask, unflushed_asks}
 use Rattle.bank_server.specs.Session.{IsAskFrame, IsFromClient, asks_in, flushed_asks, outcome_of}
 use Rattle.bank_server.specs.SessionResults.{IsFaultAt}
-use Rattle.bank_server.specs.declared.inbox.Inbox.{Inbox}
-use Rattle.bank_server.specs.declared.pending.PendingAsk.{PendingAsk}
-use Rattle.bank_server.specs.declared.session_fault.SessionFault.{SessionFault}
-use Rattle.bank_server.specs.declared.session_fault.SessionFault.TheVariants.{Frame, Unexpected, CrewGone, Device, OutOfMemory, Log, TooMany}
+use Rattle.bank_server.specs.declared.session.inbox.Inbox.{Inbox}
+use Rattle.bank_server.specs.declared.session.inbox.PendingAsk.{PendingAsk}
+use Rattle.bank_server.specs.declared.session.session_fault.SessionFault.{SessionFault}
+use Rattle.bank_server.specs.declared.session.session_fault.SessionFault.TheVariants.{Frame, Unexpected, CrewGone, Device, OutOfMemory, Log, TooMany}
 
 -- the log, a client's asks whose outcomes it wasn't given, how many of them a flush follows, and the
 -- outcomes that its connection hasn't taken

@@ -9,7 +9,7 @@ use Rattle.sb_frames.specs.declared.frame.Frame as wire
 use Rattle.sb_sequencer.specs.Numbering.{first_asks}
 use Rattle.bank_server.specs.Clients.{AreServed, ClientOf, End, IsHeard, PastOf, Piece}
 use Rattle.bank_server.specs.Session.{asks_in}
-use Rattle.bank_server.specs.declared.session_fault.SessionFault.TheVariants.{Frame}
+use Rattle.bank_server.specs.declared.session.session_fault.SessionFault.TheVariants.{Frame}
 use Rattle.bank_server.specs.inner.ClientSteps.{ClientState, ReachesClient}
 
 -- how a client ends whose last bytes are these, that aren't a whole frame

@@ -4,8 +4,8 @@ use Rattle.cown_workers.specs.declared.crew_fault.CrewFault.{CrewFault}
 use Rattle.cown_workers.specs.declared.crew_fault.CrewFault.TheVariants as crew
 use Rattle.sb_frames.specs.Streaming.{StreamState}
 use Rattle.sb_frames.specs.declared.fault.FrameFault.TheVariants.{Short}
-use Rattle.bank_server.specs.declared.session_fault.SessionFault.{SessionFault}
-use Rattle.bank_server.specs.declared.session_fault.SessionFault.TheVariants.{Frame, CrewGone, Device, OutOfMemory}
+use Rattle.bank_server.specs.declared.session.session_fault.SessionFault.{SessionFault}
+use Rattle.bank_server.specs.declared.session.session_fault.SessionFault.TheVariants.{Frame, CrewGone, Device, OutOfMemory}
 use Rattle.bank_server.specs.SessionFaults.{IsSettleFault, IsTurnFault}
 
 -- a session's fault if its log can't be executed

@@ -9,8 +9,8 @@ use Rattle.sb_frames.specs.Grammar.{spelling}
 use Rattle.sb_frames.specs.declared.frame.Frame as frames
 use Rattle.bank_server.specs.Session.{asks_in}
 use Rattle.bank_server.specs.SessionResults.{ServesUntilFault}
-use Rattle.bank_server.specs.declared.inbox.Inbox.{Inbox}
-use Rattle.bank_server.specs.declared.session_fault.SessionFault.{SessionFault}
+use Rattle.bank_server.specs.declared.session.inbox.Inbox.{Inbox}
+use Rattle.bank_server.specs.declared.session.session_fault.SessionFault.{SessionFault}
 use Rattle.bank_server.specs.inner.ClientSteps.{ClientState, ReachesClient, inbox_state}
 
 -- the client, who leaves no outcome unread, and what the writer has

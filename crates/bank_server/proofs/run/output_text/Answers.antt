@@ -6,7 +6,7 @@ use Rattle.sb_sequencer.specs.Numbering.{calls_of}
 use Rattle.bank_server.specs.PreparedInput.{output_after}
 use Rattle.bank_server.specs.Primary.{RunsLog}
 use Rattle.bank_server.specs.Standing.{IsStandingWithin}
-use Rattle.bank_server.specs.declared.asking.Standing.{Standing}
+use Rattle.bank_server.specs.declared.input.asking.Standing.{Standing}
 use Rattle.bank_server.proofs.Runs.{among, output}
 use Rattle.bank_server.proofs.run.output_text.Goals as goal
 

@@ -1,0 +1,16 @@
+use Rattle.std.proofs.Common.{◌≡◌, ◌++◌, ◌+◌, length, drop}
+use Rattle.cown_workers.specs.Draining.{HasNoneOut}
+use Rattle.sb_replica.specs.Replica.{rest_of}
+use Rattle.bank_server.proofs.node0.execution.submit_all.Given as goal
+
+-- the ops so far are submitted
+abbrev pub invariant-loop-op : goal.invariant-loop-op
+invariant-loop-op g l = record {
+  opening : l.replica.board.opening ≡ l.fn.replica.board.opening;
+  base_replies : l.replica.board.base_replies ≡ l.fn.replica.board.base_replies;
+  log : l.replica.board.log ++ drop l.op-index l.ops ≡ l.fn.replica.board.log ++ l.ops;
+  cut : l.replica.board.cut ≡ l.fn.replica.board.cut;
+  count : length l.replica.board.log ≡ length l.fn.replica.board.log + l.op-index;
+  none_out : HasNoneOut l.fn.replica.board → HasNoneOut l.replica.board;
+  beside : rest_of l.replica ≡ rest_of l.fn.replica;
+}

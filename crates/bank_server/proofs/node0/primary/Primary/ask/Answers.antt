@@ -1,0 +1,33 @@
+use Rattle.std.proofs.Common.{◌≡◌, List, ap, sym, subst, ◌∙◌}
+use Rattle.sb_calls.specs.declared.ask.Key.{Key}
+use Rattle.sb_calls.specs.declared.call.Call.{Call}
+use Rattle.sb_sequencer.specs.Sequencer.{SequencerOf}
+use Rattle.bank_server.specs.inner.AskSteps.{ExtendsLog}
+use Rattle.bank_server.specs.Primary.{PrimaryOf}
+use Rattle.bank_server.proofs.AnswerStandings.{asks_one}
+use Rattle.bank_server.proofs.Keeping.{extends_by_answer, numbers_by}
+use Rattle.bank_server.proofs.node0.primary.Primary.ask.Goals as goal
+use Rattle.bank_server.proofs.node0.primary.Primary.ask.Goals.{in-Some, in-None}
+
+pub returns-clause-asked : goal.returns-clause-asked
+returns-clause-asked g c =
+    let log : c.deref_mut.result.now.log ≡ c.args.self.now.log =
+    ap (λ (s : SequencerOf). s.log) c.deref_mut.ensures.value ∙ ap (λ (p : PrimaryOf g.row.S.Denot g.row.K.Denot). p.log) c.self.view_is in
+    elim c.match-standing_of.branch [
+      | in-Some w ↦ rw (w.result-is) (λ asks e.
+          asks_one asks c.deref_mut.result.now.log c.ask-answer.new.self.log (c.args.key, c.args.call.now) c.ask-answer.result
+          w.in-Some.standing (sym w.in-Some.ensures)
+          (log ∙ e) c.ask-answer.ensures.answer c.ask-answer.ensures.log (c.ask-answer.ensures.numbering asks))
+      | in-None w ↦ rw (w.result-is) tt
+    ]
+
+pub returns-clause-numbered : goal.returns-clause-numbered
+returns-clause-numbered g c =
+    let new : List (Key × Call) = c.ask-answer.new.self.log in
+    let log : c.deref_mut.result.now.log ≡ c.args.self.now.log =
+    ap (λ (s : SequencerOf). s.log) c.deref_mut.ensures.value ∙ ap (λ (p : PrimaryOf g.row.S.Denot g.row.K.Denot). p.log) c.self.view_is in
+    numbers_by c.args.self.now (record { log = new; node = c.self.inside.node.value; keeper = c.self.inside.keeper })
+    (subst (λ (l : List (Key × Call)). ExtendsLog l new) log
+    (extends_by_answer c.deref_mut.result.now.log new (c.args.key, c.args.call.now) c.ask-answer.result c.ask-answer.ensures.log))
+    (ap (λ (p : PrimaryOf g.row.S.Denot g.row.K.Denot). p.node) c.self.view_is)
+    (ap (λ (p : PrimaryOf g.row.S.Denot g.row.K.Denot). p.keeper) c.self.view_is)

@@ -1,0 +1,80 @@
+use Rattle.std.proofs.Common.{◌≡◌, ℕ, suc, ◌∷◌, [], List, Some, length, sym, ap, subst, ◌∙◌, arith, length-append}
+use Rattle.std.specs.Prelude.{slice_get}
+use Rattle.std.specs.Option.{option_copied}
+use Rattle.std.proofs.lemmas.Result.{err_from_is_err_and}
+use Rattle.sb_calls.specs.Op.{op_of}
+use Rattle.sb_replica.specs.Replica.{ReplicaOf, rest_of}
+use Rattle.sb_sequencer.specs.Numbering.{call_of_number}
+use Rattle.sb_sequencer.specs.Sequencer.{SequencerOf}
+use Rattle.bank_server.specs.Faults.{IsExecutionFault}
+use Rattle.bank_server.specs.Primary.{log_ops}
+use Rattle.bank_server.specs.inner.Appends.{AppendsOps}
+use Rattle.bank_server.proofs.Keeping.{kept_bank}
+use Rattle.bank_server.proofs.LogOps.{fault_behind, kept_by_one, loses_crew, op_here}
+use Rattle.bank_server.proofs.node0.primary.Primary.offer_rest.Goals as goal
+
+pub returns-in_err-submit-clause-bank : goal.returns-in_err-submit-clause-bank
+returns-in_err-submit-clause-bank g c =
+    let loop = c.loop-number in
+    let kept = loop.invariant in
+    let there : c.deref_mut.result.now ≡ loop.self-inside.node.value = c.deref_mut.ensures.value in
+    kept_bank c.args.self.now (record { log = loop.self-inside.log.value.log; node = c.submit.new.replica; keeper = loop.self-inside.keeper })
+    (c.submit.ensures.rest ∙ ap (λ (r : ReplicaOf g.row.S.Denot). rest_of r) there ∙ kept.beside)
+    (c.in_err-submit.ensures.err.opening ∙ ap (λ (r : ReplicaOf g.row.S.Denot). r.board.opening) there ∙ kept.opening)
+    kept.keeper kept.log
+
+pub returns-in_err-submit-clause-crew_lost : goal.returns-in_err-submit-clause-crew_lost
+returns-in_err-submit-clause-crew_lost g c =
+    let p = err_from_is_err_and c.from_residual.result c.from_residual.ensures.1 in
+    let fault = c.in_err-submit.field-0.0 in
+    let old = c.args.self.now.node.board in
+    let at : ReplicaOf g.row.S.Denot = c.loop-number.self-inside.node.value in
+    let there : c.deref_mut.result.now ≡ at = c.deref_mut.ensures.value in
+    rw (p.1, p.2) (loses_crew g.C.Crew.keeps old fault (fault_behind g.C.Crew.keeps old at.board fault c.loop-number.invariant.none_out
+    (subst (λ (r : ReplicaOf g.row.S.Denot). IsExecutionFault g.C.Crew.keeps r.board fault) there c.in_err-submit.ensures.fault)))
+
+pub loop-number-preserved : goal.loop-number-preserved
+loop-number-preserved g c =
+    let loop = c.loop-number in
+    let kept = loop.invariant in
+    let at : ReplicaOf g.row.S.Denot = loop.self-inside.node.value in
+    let new = c.submit.new.replica in
+    let log = loop.self-inside.log.value.log in
+    let call = c.unwrap-call.result.now in
+    let op = c.resolve-op.result in
+    let there : c.deref_mut.result.now ≡ at = c.deref_mut.ensures.value in
+    let rest : rest_of new ≡ rest_of at = c.submit.ensures.rest ∙ ap (λ (r : ReplicaOf g.row.S.Denot). rest_of r) there in
+    let put : AppendsOps (op ∷ []) at.board new.board =
+    subst (λ (r : ReplicaOf g.row.S.Denot). AppendsOps (op ∷ []) r.board new.board) there c.in_ok-submit.ensures.put in
+    let names : c.directory.result.now ≡ at.names =
+    c.directory.ensures ∙ ap (λ (r : ReplicaOf g.row.S.Denot). r.names) c.deref-in-loop-number-2.ensures in
+    let looked_up : op_of at.names call ≡ op = ap (λ (ns : List (List ℕ)). op_of ns call) (sym names) ∙ sym c.resolve-op.ensures.value in
+    let next : suc (length at.board.log) ≡ loop.number = omega (arith, kept.count) in
+    let found : call_of_number log (suc (length at.board.log)) ≡ Some call =
+    ap (call_of_number log) next ∙ ap (λ (s : SequencerOf). call_of_number s.log loop.number) (sym c.deref-in-loop-number.ensures)
+    ∙ sym c.call.ensures ∙ ap option_copied c.unwrap-call.ensures in
+    let here : slice_get (log_ops at.names log) (length at.board.log) ≡ Some op =
+    op_here (op_of at.names) log (length at.board.log) call found ∙ ap Some looked_up in
+    record {
+      kept = kept_by_one g.K.Keeper.Keeps log loop.self-inside.keeper at new kept.kept rest op put here;
+      log = kept.log;
+      keeper = kept.keeper;
+      end = kept.end;
+      count = omega (arith, ap {B = ℕ} length put.log, length-append at.board.log (op ∷ []), kept.count);
+      opening = put.opening ∙ kept.opening;
+      beside = rest ∙ kept.beside;
+      none_out = λ e none. put.none_out (kept.none_out e none);
+    }
+
+pub returns-clause-bank : goal.returns-clause-bank
+returns-clause-bank g c =
+    let loop = c.loop-number in
+    let kept = loop.invariant in
+    kept_bank c.args.self.now (record { log = loop.self-inside.log.value.log; node = loop.self-inside.node.value; keeper = loop.self-inside.keeper })
+    kept.beside kept.opening kept.keeper kept.log
+
+pub returns-in_err-submit-clause-one_each : goal.returns-in_err-submit-clause-one_each
+returns-in_err-submit-clause-one_each g c = c.loop-number.invariant.kept.valid.log
+
+pub returns-clause-one_each : goal.returns-clause-one_each
+returns-clause-one_each g c = c.loop-number.invariant.kept.valid.log

@@ -1,0 +1,113 @@
+use Rattle.std.proofs.Common.{◌≡◌, false, [], List, ◌∙◌, refl, sym, ap, subst}
+use Rattle.std.proofs.lemmas.Result.{err_from_is_err_and, on_ok_weaker}
+use Rattle.sb_rows.specs.Rows.{Rows}
+use Rattle.sb_calls.specs.declared.ask.Key.{Key}
+use Rattle.sb_calls.specs.declared.call.Call.{Call}
+use Rattle.sb_frames.specs.Streaming.{StreamState}
+use Rattle.sb_replica.specs.Replica.{ReplicaOf}
+use Rattle.cown_workers.specs.Draining.{HasNoneOut}
+use Rattle.bank_server.specs.Primary.{opening_rows_of}
+use Rattle.bank_server.specs.inner.SessionSteps.{LeadsSession, WritesDue, session_state}
+use Rattle.bank_server.specs.declared.session.TheConstants.{ASKS_OF_SESSION}
+use Rattle.bank_server.proofs.FrameSteps.{keeps_on, loses_behind}
+use Rattle.bank_server.proofs.Sessions.{crew_stays, flush_of_settle, leads_session, log_stays, stopped_after, stopped_by}
+use Rattle.bank_server.proofs.WholeReplies.{if_err, ok_always, same_opening}
+use Rattle.bank_server.proofs.session.single_session.serve_bytes.Goals as goal
+
+pub returns-in_err-write_due-clause-stops : goal.returns-in_err-write_due-clause-stops
+returns-in_err-write_due-clause-stops g c =
+    let p = err_from_is_err_and c.from_residual.result c.from_residual.ensures.1 in
+    let old = c.args.primary.now in
+    let mid = c.take_bytes-taken.new in
+    let due = c.write_due.new in
+    let taken = c.take_bytes-taken.result in
+    let start = g.W.Write.contents c.args.writer.now in
+    let fault = c.in_err-write_due.field-0.0 in
+    rw (p.1, p.2) (stopped_after (opening_rows_of old) (session_state old.log c.args.inbox.now start) (session_state mid.primary.log mid.inbox start)
+    c.args.inbox.now.stream.unread c.args.bytes.now mid.inbox.stream.unread taken fault
+    (session_state due.primary.log due.inbox (g.W.Write.contents due.writer))
+    (on_ok_weaker taken (λ handles. handles []) c.take_bytes-taken.ensures.handles)
+    (if_err taken (λ own stops. stops []) c.take_bytes-taken.ensures.stops) refl c.in_err-write_due.ensures.fault c.write_due.ensures.log)
+
+pub returns-in_err-write_due-clause-bank : goal.returns-in_err-write_due-clause-bank
+returns-in_err-write_due-clause-bank g c =
+    keeps_on c.args.primary.now c.take_bytes-taken.new.primary c.write_due.new.primary c.take_bytes-taken.ensures.numbered.bank c.write_due.ensures.bank
+
+pub returns-in_err-taken-clause-stops : goal.returns-in_err-taken-clause-stops
+returns-in_err-taken-clause-stops g c =
+    let p = err_from_is_err_and c.from_residual-in_err-taken.result c.from_residual-in_err-taken.ensures.1 in
+    let old = c.args.primary.now in
+    let mid = c.take_bytes-taken.new in
+    let due = c.write_due.new in
+    let start = g.W.Write.contents c.args.writer.now in
+    let before = session_state mid.primary.log mid.inbox start in
+    let new = session_state due.primary.log due.inbox (g.W.Write.contents due.writer) in
+    let wrote = c.in_ok-write_due.ensures in
+    let writes : WritesDue (opening_rows_of old) before new =
+    subst (λ (rows : Rows). WritesDue rows before new) (same_opening old mid.primary c.take_bytes-taken.ensures.numbered.bank) wrote.writes in
+    rw (p.1, p.2) (stopped_by (opening_rows_of old) (session_state old.log c.args.inbox.now start) before new c.args.inbox.now.stream.unread
+    c.args.bytes.now c.in_err-taken.field-0.0 (c.in_err-taken.ensures.stops []) refl writes (ap (λ n. record new.client { due = n }) wrote.none_due))
+
+pub returns-clause-leads : goal.returns-clause-leads
+returns-clause-leads g c =
+    let old = c.args.primary.now in
+    let mid = c.take_bytes-taken.new in
+    let due = c.write_due.new in
+    let start = g.W.Write.contents c.args.writer.now in
+    let before = session_state mid.primary.log mid.inbox start in
+    let new = session_state due.primary.log due.inbox (g.W.Write.contents due.writer) in
+    let end = session_state c.offer_rest.new.self.log due.inbox (g.W.Write.contents due.writer) in
+    let wrote = c.in_ok-write_due.ensures in
+    let writes : WritesDue (opening_rows_of old) before new =
+    subst (λ (rows : Rows). WritesDue rows before new) (same_opening old mid.primary c.take_bytes-taken.ensures.numbered.bank) wrote.writes in
+    let unread = c.args.inbox.now.stream.unread in
+    let leads : LeadsSession (opening_rows_of old) (session_state old.log c.args.inbox.now start) unread c.args.bytes.now new mid.inbox.stream.unread =
+    leads_session (opening_rows_of old) (session_state old.log c.args.inbox.now start) before new unread c.args.bytes.now mid.inbox.stream.unread
+    (c.in_ok-taken.ensures.handles []) refl writes in
+    ok_always c.offer_rest.result (subst (λ (l : List (Key × Call)). LeadsSession (opening_rows_of old) (session_state old.log c.args.inbox.now start) unread
+    c.args.bytes.now (session_state l due.inbox (g.W.Write.contents due.writer)) due.inbox.stream.unread) (sym c.offer_rest.ensures.log)
+    (subst (λ (s : StreamState). LeadsSession (opening_rows_of old) (session_state old.log c.args.inbox.now start) unread c.args.bytes.now new s.unread)
+    (sym c.write_due.ensures.stream) leads))
+
+pub returns-clause-stops : goal.returns-clause-stops
+returns-clause-stops g c =
+    let old = c.args.primary.now in
+    let mid = c.take_bytes-taken.new in
+    let due = c.write_due.new in
+    let start = g.W.Write.contents c.args.writer.now in
+    if_err c.offer_rest.result (λ fault is. stopped_after (opening_rows_of old) (session_state old.log c.args.inbox.now start)
+    (session_state mid.primary.log mid.inbox start) c.args.inbox.now.stream.unread c.args.bytes.now mid.inbox.stream.unread c.take_bytes-taken.result fault
+    (session_state c.offer_rest.new.self.log due.inbox (g.W.Write.contents due.writer))
+    (on_ok_weaker c.take_bytes-taken.result (λ handles. handles []) c.take_bytes-taken.ensures.handles)
+    (if_err c.take_bytes-taken.result (λ own stops. stops []) c.take_bytes-taken.ensures.stops) refl (flush_of_settle fault is)
+    (c.offer_rest.ensures.log ∙ c.write_due.ensures.log)) c.offer_rest.ensures.fault
+
+pub returns-in_err-taken-clause-bank : goal.returns-in_err-taken-clause-bank
+returns-in_err-taken-clause-bank g c =
+    keeps_on c.args.primary.now c.take_bytes-taken.new.primary c.write_due.new.primary c.take_bytes-taken.ensures.numbered.bank c.write_due.ensures.bank
+
+pub returns-clause-bank : goal.returns-clause-bank
+returns-clause-bank g c =
+    keeps_on c.args.primary.now c.take_bytes-taken.new.primary c.offer_rest.new.self c.take_bytes-taken.ensures.numbered.bank
+    (keeps_on c.take_bytes-taken.new.primary c.write_due.new.primary c.offer_rest.new.self c.write_due.ensures.bank c.offer_rest.ensures.bank)
+
+pub returns-in_err-taken-clause-crew_lost : goal.returns-in_err-taken-clause-crew_lost
+returns-in_err-taken-clause-crew_lost g c =
+    let p = err_from_is_err_and c.from_residual-in_err-taken.result c.from_residual-in_err-taken.ensures.1 in
+    rw (p.1, p.2) (crew_stays g.C.Crew.keeps c.args.primary.now.node.board ASKS_OF_SESSION c.in_err-taken.field-0.0 _
+    (c.in_err-taken.ensures.stops []).of_frames)
+
+pub returns-in_err-taken-clause-log_lost : goal.returns-in_err-taken-clause-log_lost
+returns-in_err-taken-clause-log_lost g c =
+    let p = err_from_is_err_and c.from_residual-in_err-taken.result c.from_residual-in_err-taken.ensures.1 in
+    rw (p.1, p.2) (log_stays g.K.Keeper.fails (g.K.Keeper.has_failed c.write_due.new.primary.keeper) ASKS_OF_SESSION c.in_err-taken.field-0.0 _
+    (c.in_err-taken.ensures.stops []).of_frames)
+
+pub returns-clause-crew_lost : goal.returns-clause-crew_lost
+returns-clause-crew_lost g c =
+    let old = c.args.primary.now in
+    let due = c.write_due.new.primary in
+    let none_out : g.C.Crew.keeps ≡ false → HasNoneOut old.node.board → HasNoneOut due.node.board =
+    λ e none. c.write_due.ensures.none_out e
+    (subst (λ (node : ReplicaOf g.row.S.Denot). HasNoneOut node.board) (sym c.take_bytes-taken.ensures.numbered.node) none) in
+    if_err c.offer_rest.result (λ fault. loses_behind g.C.Crew.keeps old.node.board due.node.board fault none_out) c.offer_rest.ensures.crew_lost

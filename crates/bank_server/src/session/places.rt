@@ -1,0 +1,44 @@
+//! The places of clients: who joins, and what their connections take.
+ghost use Rattle.std.specs.Prelude.{◌≡◌, ◌≤◌, ◌<◌, ◌∷◌, ◌++◌, [], drop, length, take, IfOk, IfSome, OnErr, OnOk, slice_get, slice_set};
+ghost use Rattle.bank_server.specs.Clients.{StaysReady, StaysServed, fresh_client, no_past, past_with, sends};
+
+use super::client::Client;
+use std::alloc::{AllocError, Global};
+
+/// A client joins at a new place, behind the others.
+///
+/// Fails if memory is refused; nothing changes then.
+pub(crate) fn add_client(alloc: Global, all: &mut Vec<Client>) -> Result<usize, AllocError>
+    ensures place { IfOk result (λ place. place ≡ length all.old.items) }
+    ensures joined { OnOk result (all.new.items ≡ all.old.items ++ fresh_client ∷ []) }
+    ensures ready { OnOk result (StaysReady all.old.items all.new.items) }
+    ensures served { OnOk result (StaysServed (past_with (length all.old.items) no_past) all.old.items all.new.items) }
+    ensures err { OnErr result (all.new.items ≡ all.old.items) }
+{
+    let place = all.len();
+    all.push(Client::new(alloc))?;
+    Ok(place)
+}
+
+/// A client joins at the place of one that has left.
+pub(crate) fn replace_client(alloc: Global, all: &mut [Client], place: usize)
+    requires { place < length all.old }
+    ensures joined { all.new ≡ slice_set all.old place fresh_client }
+    ensures ready { StaysReady all.old all.new }
+    ensures served { StaysServed (past_with place no_past) all.old all.new }
+{
+    all[place] = Client::new(alloc);
+}
+
+/// A client's connection takes this many bytes of its outcomes.
+pub(crate) fn take_sent(all: &mut [Client], place: usize, count: usize)
+    requires place { place < length all.old }
+    requires count { IfSome (slice_get all.old place) (λ client. count ≤ length client.outcomes) }
+    ensures taken { IfSome (slice_get all.old place) (λ client. all.new
+        ≡ slice_set all.old place (record client { outcomes = drop count client.outcomes })) }
+    ensures ready { StaysReady all.old all.new }
+    ensures served { IfSome (slice_get all.old place) (λ client. StaysServed
+        (sends place (take count client.outcomes)) all.old all.new) }
+{
+    all[place].sent(count);
+}
