@@ -1,7 +1,7 @@
 -- The sessions of clients who are served at once.
 use Rattle.std.specs.Prelude.{◌≡◌, ℕ, Option, Some, None, Err, List, [], ◌∷◌}
 use Rattle.bank_server.specs.Clients.{ClientOf, ClientsOf, End, Piece}
-use Rattle.bank_server.specs.declared.session_fault.SessionFault.TheVariants.{Device}
+use Rattle.bank_server.specs.declared.session.session_fault.SessionFault.TheVariants.{Device}
 use Rattle.bank_clients.specs.History.{OutsideOf}
 
 -- connections, the clients there, and the places of those who ended and aren't left yet

@@ -11,9 +11,11 @@ mod sessions;
 mod slot;
 mod socket_places;
 mod sockets;
+mod traffic;
 
 pub use client_errors::is_of_a_client;
 pub use connections::Connections;
 pub use laws::begins_served;
 pub use sessions::{Over, Sessions};
 pub use sockets::{ClientSockets, Limits};
+pub use traffic::Traffic;

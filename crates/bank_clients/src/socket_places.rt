@@ -3,6 +3,7 @@ ghost use Rattle.std.specs.Prelude.{◌≤◌, length, IfSome};
 
 use crate::lingering::Lingering;
 use crate::slot::Slot;
+use crate::traffic::Traffic;
 use bank_server::Arrival;
 use std::alloc::{AllocError, Global};
 use std::time::{Duration, Instant};
@@ -17,6 +18,8 @@ pub(crate) struct SocketPlaces {
     // once at most, so there is always room.
     ready: Vec<usize>,
     later: Vec<usize>,
+    // The places of guests who are looked at next. A place stands there once at most.
+    guests: Vec<usize>,
     // The places whose connections take more again.
     writable: Vec<usize>,
     // For how long a client may be silent.
@@ -56,6 +59,7 @@ impl SocketPlaces {
             free,
             ready: Vec::with_capacity(alloc, count)?,
             later: Vec::with_capacity(alloc, count)?,
+            guests: Vec::with_capacity(alloc, count)?,
             writable: Vec::with_capacity(alloc, count)?,
             patience,
             look: None,
@@ -72,7 +76,7 @@ impl SocketPlaces {
         add(&mut self.free, place);
     }
 
-    /// A client comes to a place that was taken.
+    /// A guest comes to a place that was taken.
     pub(crate) fn put(&mut self, place: usize, slot: Slot) {
         self.look = earlier(self.look, deadline(&slot, self.patience));
         if let Some(old) = self.slots.get_mut(place) {
@@ -86,6 +90,14 @@ impl SocketPlaces {
             *old = None;
         }
         self.give_back(place);
+    }
+
+    /// What went over the connection at a place until this time.
+    pub(crate) fn traffic_at(&self, place: usize, now: Instant) -> Option<Traffic> {
+        match self.slots.get(place) {
+            Some(Some(slot)) => Some(slot.carried(now)),
+            _ => None,
+        }
     }
 
     /// The socket at a place.
@@ -138,15 +150,52 @@ impl SocketPlaces {
         }
     }
 
-    /// Has the socket at a place read next.
+    /// Has the socket at a place read next, or looked at if it is a guest's.
     pub(crate) fn list(&mut self, place: usize) {
         let Some(slot) = self.slot(place) else {
             return;
         };
-        if !slot.is_listed {
-            slot.is_listed = true;
+        if slot.is_listed {
+            return;
+        }
+        slot.is_listed = true;
+        if slot.is_guest {
+            add(&mut self.guests, place);
+        } else {
             add(&mut self.later, place);
         }
+    }
+
+    /// Looks at the guests, and answers how many were closed, and the place of one who is a client from now on:
+    /// it has sent something, or was silent for too long. Who closes its connection before is none.
+    pub(crate) fn next_guest(&mut self) -> (usize, Option<usize>) {
+        let mut closed = 0;
+        for _ in 0..self.guests.len() {
+            let Some(place) = self.guests.pop() else {
+                break;
+            };
+            match self.look_at(place) {
+                Some(true) => return (closed, Some(place)),
+                Some(false) => closed += 1,
+                None => {}
+            }
+        }
+        (closed, None)
+    }
+
+    // Looks at the guest at a place: whether it is a client from now on, or is closed, or neither by now.
+    fn look_at(&mut self, place: usize) -> Option<bool> {
+        let slot = self.slot(place)?;
+        slot.is_listed = false;
+        let is_client = slot.has_failed || slot.has_spoken()?;
+        if is_client {
+            slot.is_guest = false;
+            slot.is_listed = true;
+            add(&mut self.ready, place);
+        } else {
+            self.close(place);
+        }
+        Some(is_client)
     }
 
     /// The sockets that are read next are read now, in the order in which they were listed.

@@ -5,6 +5,7 @@ use crate::client_errors::is_of_a_client;
 use crate::connections::Connections;
 use crate::slot::Slot;
 use crate::socket_places::{Sign, SocketPlaces, earlier, has_come};
+use crate::traffic::Traffic;
 use bank_server::{Arrival, Arrivals};
 use mio::net::{TcpListener, TcpStream};
 use mio::{Events, Interest, Poll, Token};
@@ -17,7 +18,7 @@ use std::time::{Clock, Duration, Instant};
 // How many signs of the system are taken at once.
 const SIGNS: usize = 1_024;
 
-// How many clients are accepted before others are served again.
+// How many are accepted before others are served again.
 const GUESTS: usize = 64;
 
 // After how long accepting is tried again, in milliseconds, if the system can't.
@@ -35,7 +36,8 @@ pub struct Limits {
 }
 
 /// The sockets of clients, and the one where they come. All of them are polled by the thread that
-/// serves, and none is waited for alone. It isn't known what arrives there, or what they take.
+/// serves, and none is waited for alone. Who closes its connection before it sends something isn't a client, as
+/// health checks do. It isn't known what arrives there, or what they take.
 #[derive(Drop)]
 pub struct ClientSockets<'a, H: Clock> {
     rt: &'a H,
@@ -47,7 +49,7 @@ pub struct ClientSockets<'a, H: Clock> {
     // Whether someone may have come, and when that is found out if accepting failed.
     has_guests: bool,
     retry: Option<Instant>,
-    // How many may come yet.
+    // How many may come yet. Who came and sent nothing doesn't count.
     left: usize,
     places: SocketPlaces,
     now: Instant,
@@ -88,6 +90,11 @@ impl<'a, H: Clock> ClientSockets<'a, H> {
         Ok(self.listener.local_addr()?.port())
     }
 
+    /// What went over the connection at a place by now.
+    pub fn traffic(&self, place: usize) -> Option<Traffic> {
+        self.places.traffic_at(place, self.now)
+    }
+
     // For how long the system is asked at most.
     fn timeout(&self) -> Option<Duration> {
         if self.places.is_busy() || self.is_open() {
@@ -114,24 +121,22 @@ impl<'a, H: Clock> ClientSockets<'a, H> {
         }
     }
 
-    // A client that came gets a place, or is closed if there is none.
-    fn seat(&mut self, stream: TcpStream) -> Option<usize> {
-        let place = self.places.take_free()?;
-        match self.register(stream, place) {
+    // A guest that came gets a place, or is closed if there is none.
+    fn seat(&mut self, stream: TcpStream, peer: SocketAddr) {
+        let Some(place) = self.places.take_free() else {
+            return;
+        };
+        match self.register(stream, peer, place) {
             Ok(slot) => {
                 self.places.put(place, slot);
                 self.left = self.left.saturating_sub(1);
-                Some(place)
             }
-            Err(_) => {
-                self.places.give_back(place);
-                None
-            }
+            Err(_) => self.places.give_back(place),
         }
     }
 
     // Has the system tell of a socket.
-    fn register(&self, stream: TcpStream, place: usize) -> io::Result<Slot> {
+    fn register(&self, stream: TcpStream, peer: SocketAddr, place: usize) -> io::Result<Slot> {
         let mut stream = stream;
         // What is written is sent at once.
         stream.set_nodelay(true)?;
@@ -139,13 +144,13 @@ impl<'a, H: Clock> ClientSockets<'a, H> {
         self.poll
             .registry()
             .register(&mut stream, Token(place), both)?;
-        Ok(Slot::new(stream, self.now))
+        Ok(Slot::new(stream, peer, self.now))
     }
 
     // The next one who came, if it is known that there is one.
-    fn accept(&mut self) -> Option<TcpStream> {
+    fn accept(&mut self) -> Option<(TcpStream, SocketAddr)> {
         match self.listener.accept() {
-            Ok((stream, _)) => Some(stream),
+            Ok(guest) => Some(guest),
             Err(error) => {
                 match error.kind() {
                     ErrorKind::WouldBlock => self.has_guests = false,
@@ -190,18 +195,19 @@ impl<'a, H: Clock> Connections for ClientSockets<'a, H> {
         Ok(())
     }
 
+    // Who came is a client once it has sent something.
     fn admit(&mut self) -> Option<usize> {
         for _ in 0..GUESTS {
             if !self.is_open() {
-                return None;
+                break;
             }
-            if let Some(stream) = self.accept() {
-                if let Some(place) = self.seat(stream) {
-                    return Some(place);
-                }
+            if let Some((stream, peer)) = self.accept() {
+                self.seat(stream, peer);
             }
         }
-        None
+        let (closed, client) = self.places.next_guest();
+        self.left = self.left.saturating_add(closed);
+        client
     }
 
     fn writable(&self) -> &[usize] {

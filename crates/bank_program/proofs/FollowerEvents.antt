@@ -9,13 +9,12 @@ use Rattle.sb_sequencer.specs.Sequencer.{SequencerOf}
 use Rattle.schedule_player.specs.Bank.{BankOf}
 use Rattle.schedule_player.specs.OneBased.{nth_item}
 use Rattle.schedule_player.specs.Readiness.{runnable_entries}
-use Rattle.schedule_player.specs.ReplicaEvents.{node_move}
-use Rattle.schedule_player.specs.ReplicaMoves.{NodeOf, length_in, undone_in, frame_move, take_by_hand, take_entry, finish_by_hand, finish_by_stage, with_empty_hand}
+use Rattle.schedule_player.specs.ReplicaMoves.{NodeOf, length_in, undone_in, frame_move, take_by_hand, take_entry, finish_by_hand, finish_by_stage, with_empty_hand, node_move}
 use Rattle.schedule_player.specs.Stage.{Stage, IsOut}
 use Rattle.schedule_player.proofs.Lists.{get_here}
-use Rattle.schedule_player.proofs.MemoryRefusals.{entry_by, next_by}
-use Rattle.schedule_text.specs.declared.event.Event.{Event}
-use Rattle.schedule_text.specs.declared.event.Event.TheVariants as event
+use Rattle.schedule_player.proofs.events.MemoryRefusals.{entry_by, next_by}
+use Rattle.schedule_text.specs.declared.event.NodeEvent.{NodeEvent}
+use Rattle.schedule_text.specs.declared.event.NodeEvent.TheVariants as event
 use Rattle.bank_program.specs.FollowerEvents.{EventsLead, IsFollowerEvent, IsSentBefore, MessagesAreEvents, node_after_events}
 use Rattle.bank_program.specs.FollowerMoves.{FollowerMove, Hears, Takes, Finishes, follower_move, follower_node, frames_heard, node_after}
 use Rattle.bank_program.proofs.FollowerMessages.{messages_are_moves}
@@ -60,12 +59,12 @@ finish_keeps bank node worker (Some (Some n)) = stage_keeps bank (with_empty_han
 
 module _ (bank : BankOf) (sequencer : SequencerOf) (r : ℕ) where
   -- one event before others
-  happens_before : (old mid new : NodeOf) (first : Event) → IsFollowerEvent r first → (node_move bank sequencer old first).0 ≡ mid
+  happens_before : (old mid new : NodeOf) (first : NodeEvent) → IsFollowerEvent first → (node_move bank sequencer r old first).0 ≡ mid
       → EventsLead bank sequencer r mid new → EventsLead bank sequencer r old new
   happens_before old mid new first at made others = record {
     events = first ∷ others.events;
-    at = All-cons (IsFollowerEvent r) first others.events at others.at;
-    after = ap (λ node. node_after_events bank sequencer node others.events) made ∙ others.after;
+    at = All-cons IsFollowerEvent first others.events at others.at;
+    after = ap (λ node. node_after_events bank sequencer r node others.events) made ∙ others.after;
   }
 
   hears_event : (old new : NodeOf) (one : Frame) → IsSentBefore old.inbound one → EventsLead bank sequencer r (follower_move bank old (Hears one)) new
@@ -74,12 +73,12 @@ module _ (bank : BankOf) (sequencer : SequencerOf) (r : ℕ) where
       subst (λ node. EventsLead bank sequencer r node new) (ap (λ f. (frame_move old (Some f)).0) flush) others
   hears_event old new one (inr sent) others =
       let place = sent.0 in
-      happens_before old (follower_move bank old (Hears one)) new (event.To r (suc place)) refl
+      happens_before old (follower_move bank old (Hears one)) new (event.To (suc place)) tt
       (ap (λ found. (frame_move old found).0) (get_here old.inbound place one sent.1 (sym sent.2))) others
 
   events_happen : (moves : List FollowerMove) (node : NodeOf) → AllByRecursion (IsSentBefore node.inbound) (frames_heard moves)
       → EventsLead bank sequencer r node (node_after bank node moves)
-  events_happen [] node sent = record { events = []; at = All-nil (IsFollowerEvent r); after = refl }
+  events_happen [] node sent = record { events = []; at = All-nil IsFollowerEvent; after = refl }
   events_happen (Hears one ∷ moves) node sent =
       let mid = follower_move bank node (Hears one) in
       hears_event node (node_after bank mid moves) one sent.0
@@ -87,12 +86,12 @@ module _ (bank : BankOf) (sequencer : SequencerOf) (r : ℕ) where
       (subst (λ inbound. AllByRecursion (IsSentBefore inbound) (frames_heard moves)) (sym (frame_keeps node (Some one))) sent.1))
   events_happen (Takes index ∷ moves) node sent =
       let mid = follower_move bank node (Takes index) in
-      happens_before node mid (node_after bank mid moves) (event.Take r 1 index) (refl, refl) refl
+      happens_before node mid (node_after bank mid moves) (event.Take 1 index) refl refl
       (events_happen moves mid
       (subst (λ inbound. AllByRecursion (IsSentBefore inbound) (frames_heard moves)) (sym (take_keeps bank node 1 index (nth_item node.hands 1))) sent))
   events_happen (Finishes ∷ moves) node sent =
       let mid = follower_move bank node Finishes in
-      happens_before node mid (node_after bank mid moves) (event.Finish r 1) (refl, refl) refl
+      happens_before node mid (node_after bank mid moves) (event.Finish 1) refl refl
       (events_happen moves mid
       (subst (λ inbound. AllByRecursion (IsSentBefore inbound) (frames_heard moves)) (sym (finish_keeps bank node 1 (nth_item node.hands 1))) sent))
 

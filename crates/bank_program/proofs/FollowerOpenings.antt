@@ -14,8 +14,8 @@ use Rattle.schedule_player.specs.MachineView.{stages_of, slot_length, ops_of}
 use Rattle.schedule_player.specs.ReplicaMoves.{opened_node}
 use Rattle.schedule_player.specs.ReplicaOfLog.{IsBoardOfLog}
 use Rattle.schedule_player.specs.StoredOfLog.{IsStoredOfLog}
-use Rattle.schedule_player.proofs.BoardOfLog.{along_opened, opening_along}
-use Rattle.schedule_player.proofs.HeldEntries.{none_along, none_seen}
+use Rattle.schedule_player.proofs.boards.BoardOfLog.{along_opened, opening_along}
+use Rattle.schedule_player.proofs.entries.HeldEntries.{none_along, none_seen}
 use Rattle.schedule_player.proofs.NodeMoves.{same_node}
 use Rattle.bank_program.specs.FollowerMoves.{FollowersOpen, IsFollowerOf, follower_node}
 

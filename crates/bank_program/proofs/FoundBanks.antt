@@ -22,7 +22,7 @@ use Rattle.bank_server.specs.declared.fault.RunFault.TheVariants as run
 use Rattle.bank_program.specs.FoundBank.{IsFindFault, with_line_end}
 use Rattle.bank_program.specs.Opening.{with_nothing_behind, whole_opening_of}
 use Rattle.bank_program.specs.declared.serve_fault.ServeFault.{ServeFault}
-use Rattle.bank_program.specs.declared.serve_fault.ServeFault.TheVariants.{AnotherOpening, Log, PortTaken, ReadBack, Run, Store}
+use Rattle.bank_program.specs.declared.serve_fault.ServeFault.TheVariants.{AnotherOpening, Log, PortTaken, ReadBack, Run, Store, StoreInUse}
 use Rattle.bank_program.specs.inner.FindSteps.{IsMatchFault}
 use Rattle.bank_program.proofs.WholeOpenings.{whole_if_all, whole_is}
 
@@ -163,6 +163,7 @@ matches_not content input new text asks rest (Run run.OutOfMemory) read left som
     inl (inr (read.bodies, rest, read.reads, read.torn, append_cancel_right new (records read.bodies) rest (sym left ∙ read.reads.whole)))
 matches_not content input new text asks rest ReadBack read left some is = absurd is
 matches_not content input new text asks rest Store read left some is = absurd is
+matches_not content input new text asks rest StoreInUse read left some is = absurd is
 matches_not content input new text asks rest (PortTaken port) read left some is = absurd is
 matches_not content input new text asks rest (Log fault) read left some is = absurd is
 matches_not content input new text asks rest AnotherOpening read left some is = (text, asks, rest, read, some, is.0, is.1, left)

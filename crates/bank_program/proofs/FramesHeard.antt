@@ -19,8 +19,8 @@ use Rattle.sb_replica_log.specs.declared.offered.Offered.TheVariants as offer
 use Rattle.schedule_player.specs.Bank.{BankOf}
 use Rattle.schedule_player.specs.FramesOfLog.{IsEntryOf}
 use Rattle.schedule_player.specs.ReplicaMoves.{frame_move}
-use Rattle.schedule_player.proofs.EntryOffers.{IsLogAlong, entry_alike, offer_along}
-use Rattle.schedule_player.proofs.FrameSteps.{number_within, whole_spelled}
+use Rattle.schedule_player.proofs.entries.EntryOffers.{IsLogAlong, entry_alike, offer_along}
+use Rattle.schedule_player.proofs.entries.FrameSteps.{number_within, whole_spelled}
 use Rattle.bank_server.proofs.Boards.{none_out_more}
 use Rattle.bank_program.specs.FollowerMoves.{Hears, IsFollowerOf, IsSentToFollowers, MovesLead, follower_node, node_after}
 

@@ -7,7 +7,7 @@ use Rattle.bank_server.specs.declared.fault.RunFault.{RunFault}
 use Rattle.bank_server.specs.declared.fault.RunFault.TheVariants.{Input, Strayed, CrewGone, Device, OutOfMemory}
 use Rattle.bank_program.specs.ServeFaults.{IsFinishFault, IsFinishRunFault}
 use Rattle.bank_program.specs.declared.serve_fault.ServeFault.{ServeFault}
-use Rattle.bank_program.specs.declared.serve_fault.ServeFault.TheVariants.{Run, ReadBack, Store, PortTaken, Log, AnotherOpening}
+use Rattle.bank_program.specs.declared.serve_fault.ServeFault.TheVariants.{Run, ReadBack, Store, StoreInUse, PortTaken, Log, AnotherOpening}
 
 -- a crew that may be gone may be gone for another reason too
 pub run_fault_if : {A B : Type 0} (fault : RunFault) → (A → B) → IsFinishRunFault A fault → IsFinishRunFault B fault
@@ -22,6 +22,7 @@ pub finish_fault_if : {A B : Type 0} (saves fails : Bool) (fault : ServeFault) �
 finish_fault_if saves fails (Run fault) f is = run_fault_if fault f is
 finish_fault_if saves fails ReadBack f is = is
 finish_fault_if saves fails Store f is = is
+finish_fault_if saves fails StoreInUse f is = is
 finish_fault_if saves fails (PortTaken port) f is = is
 finish_fault_if saves fails (Log fault) f is = is
 finish_fault_if saves fails AnotherOpening f is = is

@@ -1,7 +1,13 @@
 -- The value of an option, by the first of the words.
-use Rattle.std.proofs.Common.{◌≡◌, ◌≢◌, ◌++◌, ◌∷◌, [], List, String, string_bytes, map, refl, sym, ap, subst, arith, length, ◌∙◌}
-use Rattle.bank_program.specs.Words.{HasValue}
+use Rattle.std.proofs.Common.{◌≡◌, ◌≢◌, Bool, true, false, ◌++◌, ◌∷◌, [], List, String, string_bytes, map, refl, sym, ap, subst, arith, length, ◌∙◌}
+use Rattle.std.specs.Str.{bytes_eq}
+use Rattle.std.proofs.lemmas.Slice.Eq.{bytes_eq-Decides}
+use Rattle.bank_program.specs.Words.{HasValue, has_word}
 use Rattle.bank_program.proofs.OptionValues.{Text, stands-next, stands-same, stands-later, stands-only, stands-nowhere, stands-last}
+
+false_unless : (b : Bool) → ¬ (b ≡ true) → b ≡ false
+false_unless true wrong = absurd (wrong refl)
+false_unless false wrong = refl
 
 module _ {A : Type 0} where
   no_words : (words : List (String A)) → length words ≡ 0 → words ≡ []
@@ -47,3 +53,25 @@ module _ {A : Type 0} where
 
   pub no_word : (option value : Text) (rest : List (String A)) → length rest ≡ 0 → ¬ (HasValue option value (map string_bytes rest))
   no_word option value rest none stands = stands-nowhere option value (subst (λ ws. HasValue option value (map string_bytes ws)) (no_words rest none) stands)
+
+  -- it is the first of the words
+  pub word_here : (word : Text) (first : String A) (rest others : List (String A)) → rest ≡ first ∷ others → string_bytes first ≡ word
+      → has_word word (map string_bytes rest) ≡ true
+  unfolding has_word
+  word_here word first rest others is named =
+      let same : bytes_eq (string_bytes first) word ≡ true = (bytes_eq-Decides (string_bytes first) word).1 named in
+      rw (is, same) refl
+
+  -- it isn't the first, so it is among the others or not at all
+  pub word_behind : (word : Text) (first : String A) (rest others : List (String A)) → rest ≡ first ∷ others → string_bytes first ≢ word
+      → has_word word (map string_bytes rest) ≡ has_word word (map string_bytes others)
+  unfolding has_word
+  word_behind word first rest others is other =
+      let differs : bytes_eq (string_bytes first) word ≡ false = false_unless (bytes_eq (string_bytes first) word)
+      (λ e. other ((bytes_eq-Decides (string_bytes first) word).0 e)) in
+      rw (is, differs) refl
+
+  pub no_words_left : (word : Text) (rest : List (String A)) → length rest ≡ 0 → has_word word (map string_bytes rest) ≡ false
+  unfolding has_word
+  no_words_left word [] none = refl
+  no_words_left word (first ∷ rest) none = absurd cc

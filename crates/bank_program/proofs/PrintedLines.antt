@@ -2,6 +2,7 @@
 use Rattle.std.proofs.Common.{◌≡◌, ℕ, ◌+◌, Option, List, [], ◌∷◌, ◌++◌, length, refl, sym, ap, subst, ◌∙◌, arith, length-append}
 use Rattle.std.specs.Prelude.{Result, Ok, Err, IfSome, OnOk}
 use Rattle.std.specs.Io.KnownBytes.{Appends}
+use Rattle.std.specs.declared.net.ip_addr.IpAddr.{IpAddr}
 use Rattle.std.proofs.KnownBytes.{Appends-nil, Appends-trans}
 use Rattle.std.proofs.lemmas.Grind.{flat_map-append}
 use Rattle.std.proofs.lemmas.List.Elements.{All-append, All-cons, All-nil}
@@ -23,10 +24,10 @@ abbrev Log : Type 0
 Log = List (Key × Call)
 
 -- a line with a port
-pub port_printed : {E : Type 0} (at : Option ℕ) (port : ℕ) (done : Result (Unit {0}) E) (line : List ℕ) (a b : Option (List ℕ)) → IsPortOf at port
-    → line ≡ port_line port → OnOk done (PrintsLines (line ∷ []) a b) → OnOk done (PrintsPort at a b)
-port_printed at port (Ok done) line a b listens is said = (port, listens, subst (λ (l : List ℕ). PrintsLines (l ∷ []) a b) is said)
-port_printed at port (Err fault) line a b listens is said = tt
+pub port_printed : {E : Type 0} (host : IpAddr) (at : Option ℕ) (port : ℕ) (done : Result (Unit {0}) E) (line : List ℕ)
+    (a b : Option (List ℕ)) → IsPortOf at port → line ≡ port_line host port → OnOk done (PrintsLines (line ∷ []) a b) → OnOk done (PrintsPort host at a b)
+port_printed host at port (Ok done) line a b listens is said = (port, listens, subst (λ (l : List ℕ). PrintsLines (l ∷ []) a b) is said)
+port_printed host at port (Err fault) line a b listens is said = tt
 
 -- lines, and then more lines
 pub PrintsLines-trans : (a b c : Option (List ℕ)) (xs ys : List (List ℕ)) → PrintsLines xs a b → PrintsLines ys b c → PrintsLines (xs ++ ys) a c
@@ -95,14 +96,15 @@ module _ {R W : Type 0} (sends : R → Option (List ℕ)) (gets : W → Option (
       }
 
   -- the port, the sessions, and the rows of the bank that is left
-  pub serves_bank : {S K : Type 0} (opening : K → Option (List ℕ)) (first opened last : PrimaryOf S K) (count : ℕ) (at : Option ℕ)
+  pub serves_bank : {S K : Type 0} (opening : K → Option (List ℕ)) (first opened last : PrimaryOf S K) (count : ℕ) (host : IpAddr) (at : Option ℕ)
       (clients then : Option (ListenerClients R W)) (a b c d e f : Option (List ℕ))
       → IsSameBank first opened → IsSameBank first last
       → opening opened.keeper ≡ opening first.keeper → opening last.keeper ≡ opening first.keeper
-      → opened.log ≡ first.log → PrintsLog opening opened a b → PrintsPort at b c
+      → opened.log ≡ first.log → PrintsLog opening opened a b → PrintsPort host at b c
       → ServesAll sends gets (opening_rows_of opened) count clients then opened.log last.log c d → PrintsLog opening last d e → PrintsRows last e f
-      → ServesBank sends gets first.node.names first.node.board.opening count at clients then first.log last.log (opening first.keeper) a f
-  serves_bank opening first opened last count at clients then a b c d e f early same text text_then same_log line (port, listens, start) served last_line rows =
+      → ServesBank sends gets first.node.names first.node.board.opening count host at clients then first.log last.log (opening first.keeper) a f
+  serves_bank opening first opened last count host at clients then a b c d e f early same text text_then same_log line (port, listens, start) served
+      last_line rows =
       let same_lines : end_lines last.node.names last.node.board.opening last.log ≡ end_lines first.node.names first.node.board.opening last.log =
       ap (λ (names : List (List ℕ)). end_lines names last.node.board.opening last.log) same.names
       ∙ ap (λ (opening : Balances). end_lines first.node.names opening last.log) same.opening in
@@ -118,12 +120,12 @@ module _ {R W : Type 0} (sends : R → Option (List ℕ)) (gets : W → Option (
         printed =
             let sessions = session_lines 1 served.ends in
             let lines = log_lines (opening first.keeper) last.log in
-            let rest = PrintsLines-trans b e f ((port_line port ∷ sessions) ++ lines) ended
-            (PrintsLines-trans b d e (port_line port ∷ sessions) lines
-            (PrintsLines-trans b c d (port_line port ∷ []) sessions start served.printed)
+            let rest = PrintsLines-trans b e f ((port_line host port ∷ sessions) ++ lines) ended
+            (PrintsLines-trans b d e (port_line host port ∷ sessions) lines
+            (PrintsLines-trans b c d (port_line host port ∷ []) sessions start served.printed)
             (subst (λ (text : Option (List ℕ)). PrintsLines (log_lines text last.log) d e) text_then last_line))
             (subst (λ (ls : List (List ℕ)). PrintsLines ls e f) same_lines rows) in
-            PrintsLines-trans a b f (log_lines (opening first.keeper) first.log) (((port_line port ∷ sessions) ++ lines) ++ ended)
+            PrintsLines-trans a b f (log_lines (opening first.keeper) first.log) (((port_line host port ∷ sessions) ++ lines) ++ ended)
             (subst (λ (text : Option (List ℕ)). PrintsLines (log_lines text first.log) a b) text
             (subst (λ (log : Log). PrintsLines (log_lines (opening opened.keeper) log) a b) same_log line)) rest;
       }

@@ -18,7 +18,7 @@ use Rattle.sb_calls.specs.declared.op.Op.{Op}
 use Rattle.bank_server.specs.Execution.{HasNoEntries}
 use Rattle.bank_server.specs.Clients.{ClientOf, End, IsLeft, IsServed, PastOf}
 use Rattle.bank_server.specs.Primary.{PreservesBank, PrimaryOf, opening_rows_of}
-use Rattle.bank_server.specs.declared.session_fault.SessionFault.TheVariants.{Frame, Unexpected, CrewGone, Device, OutOfMemory, Log, TooMany}
+use Rattle.bank_server.specs.declared.session.session_fault.SessionFault.TheVariants.{Frame, Unexpected, CrewGone, Device, OutOfMemory, Log, TooMany}
 use Rattle.bank_clients.specs.History.{GoesOn, HistoryOf, OutsideOf, ServesEach, history_after}
 use Rattle.bank_clients.specs.Sessions.{IsOver, end_with_rest}
 use Rattle.bank_clients.proofs.Histories.{goes_on_then, stays_on}
@@ -217,7 +217,7 @@ module _ {S K : Type 0} (model : StoreModel S) (keeps : K → List (Key × Call)
   -- all that a bank prints
   pub serves_at_once : (plan : Plan) (port : ℕ) (o p : OutsideOf) (xs ys : List ClientOf) (first opened served last : PrimaryOf S K)
       (a b c d e f : Option (List ℕ)) → IsBankAfter model keeps text_of false 1 first opened → opened.log ≡ first.log
-      → PrintsLog text_of opened a b → PrintsLines (port_line port ∷ []) b c
+      → PrintsLog text_of opened a b → PrintsLines (port_line plan.host port ∷ []) b c
       → ServesSome model text_of plan.saves plan.sessions o p xs ys opened served c d
       → IsBankAfter model keeps text_of plan.saves 1 served last → last.log ≡ served.log
       → PrintsLog text_of last d e → PrintsRows last e f
@@ -239,11 +239,12 @@ module _ {S K : Type 0} (model : StoreModel S) (keeps : K → List (Key × Call)
         all = some.all;
         go_on = some.go_on;
         printed =
-            let rest = PrintsLines-trans b e f ((port_line port ∷ sessions) ++ lines) ended
-            (PrintsLines-trans b d e (port_line port ∷ sessions) lines (PrintsLines-trans b c d (port_line port ∷ []) sessions start some.printed)
+            let rest = PrintsLines-trans b e f ((port_line plan.host port ∷ sessions) ++ lines) ended
+            (PrintsLines-trans b d e (port_line plan.host port ∷ sessions) lines
+            (PrintsLines-trans b c d (port_line plan.host port ∷ []) sessions start some.printed)
             (subst (λ (text : Option (List ℕ)). PrintsLines (log_lines text last.log) d e) whole.text last_line))
             (subst (λ (ls : List (List ℕ)). PrintsLines ls e f) same_lines rows) in
-            PrintsLines-trans a b f (log_lines (text_of first.keeper) first.log) (((port_line port ∷ sessions) ++ lines) ++ ended)
+            PrintsLines-trans a b f (log_lines (text_of first.keeper) first.log) (((port_line plan.host port ∷ sessions) ++ lines) ++ ended)
             (subst (λ (text : Option (List ℕ)). PrintsLines (log_lines text first.log) a b) early.text
             (subst (λ (l : CallLog). PrintsLines (log_lines (text_of opened.keeper) l) a b) same_log line)) rest;
         left = whole;

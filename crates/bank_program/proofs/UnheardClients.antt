@@ -8,7 +8,7 @@ use Rattle.sb_calls.specs.declared.call.Call.{Call}
 use Rattle.sb_sequencer.specs.Numbering.{IsLog, first_asks}
 use Rattle.bank_server.proofs.OwnLog.{own_log}
 use Rattle.bank_server.specs.Session.{IsFromClient}
-use Rattle.bank_server.specs.declared.session_fault.SessionFault.TheVariants.{Device}
+use Rattle.bank_server.specs.declared.session.session_fault.SessionFault.TheVariants.{Device}
 use Rattle.bank_program.specs.Sessions.{IsSession}
 
 -- a client whose stream can't be set up

@@ -23,12 +23,12 @@ use Rattle.schedule_player.specs.MachineView.{stage_of, stages_of, slot_length, 
 use Rattle.schedule_player.specs.StoredOfLog.{IsStoredOfLog}
 use Rattle.schedule_player.specs.ReplicaOfLog.{IsBoardOfLog, AreHeldOfLog}
 use Rattle.schedule_player.specs.inner.SettlingSteps.{IsAtRest}
-use Rattle.schedule_player.proofs.BoardOfLog.{along_finished, along_taken}
-use Rattle.schedule_player.proofs.BoardReplies.{within_log}
-use Rattle.schedule_player.proofs.FirstUndone.{all_done}
+use Rattle.schedule_player.proofs.boards.BoardOfLog.{along_finished, along_taken}
+use Rattle.schedule_player.proofs.boards.BoardReplies.{within_log}
+use Rattle.schedule_player.proofs.boards.FirstUndone.{all_done}
 use Rattle.schedule_player.proofs.NodeMoves.{same_node}
-use Rattle.schedule_player.proofs.Stages.{length-map, length_stages, undone_in_stages}
-use Rattle.schedule_player.proofs.WorkSteps.{worked, works, all_worked}
+use Rattle.schedule_player.proofs.boards.Stages.{length-map, length_stages, undone_in_stages}
+use Rattle.schedule_player.proofs.hands.WorkSteps.{worked, works, all_worked}
 use Rattle.bank_server.proofs.Boards.{idle_none_out}
 use Rattle.bank_program.specs.FollowerMoves.{FollowerMove, Takes, Finishes, IsFollowerOf, MovesLead, follower_node, node_after}
 use Rattle.bank_server.specs.FollowerTurns.{RunsAll}

@@ -5,7 +5,7 @@ use Rattle.bank_server.specs.declared.fault.RunFault.TheVariants.{Input, Strayed
 use Rattle.schedule_player.specs.declared.fault.ScheduleFault.{ScheduleFault}
 use Rattle.schedule_player.specs.declared.fault.ScheduleFault.TheVariants as schedule
 use Rattle.bank_program.specs.declared.fault.ProgramFault.{ProgramFault}
-use Rattle.bank_program.specs.declared.fault.ProgramFault.TheVariants.{Run, Play, Serve, Log, Checkpoint, Ask}
+use Rattle.bank_program.specs.declared.fault.ProgramFault.TheVariants.{Run, UnendedLine, Play, Serve, Log, Checkpoint, Ask}
 use Rattle.ask_client.specs.declared.ask_fault.AskFault.{AskFault}
 use Rattle.ask_client.specs.declared.ask_fault.AskFault.TheVariants as ask
 use Rattle.bank_program.specs.ListFaults.{list_status}
@@ -32,6 +32,7 @@ abbrev pub serve_status : ServeFault → ℕ
 serve_status (serve.Run fault) = run_status fault
 serve_status serve.ReadBack = 3
 serve_status serve.Store = 3
+serve_status serve.StoreInUse = 3
 serve_status (serve.PortTaken port) = 3
 serve_status (serve.Log fault) = 3
 serve_status serve.AnotherOpening = 3
@@ -45,6 +46,7 @@ ask_status other = 3
 -- the exit status
 abbrev pub exit_status : ProgramFault → ℕ
 exit_status (Run fault) = run_status fault
+exit_status UnendedLine = 1
 exit_status (Play fault) = play_status fault
 exit_status (Serve fault) = serve_status fault
 exit_status (Log fault) = list_status fault

@@ -9,29 +9,28 @@ use Rattle.sb_sequencer.specs.Sequencer.{SequencerOf}
 use Rattle.bank_program.specs.FollowerMoves.{HandlesMessages, IsFollowerOf, SpellTheLog, follower_node}
 use Rattle.bank_server.specs.FollowerTurns.{FollowerOf}
 use Rattle.schedule_player.specs.Bank.{BankOf}
-use Rattle.schedule_player.specs.ReplicaEvents.{node_move}
-use Rattle.schedule_player.specs.ReplicaMoves.{NodeOf}
-use Rattle.schedule_text.specs.declared.event.Event.{Event}
-use Rattle.schedule_text.specs.declared.event.Event.TheVariants as event
+use Rattle.schedule_player.specs.ReplicaMoves.{NodeOf, node_move}
+use Rattle.schedule_text.specs.declared.event.NodeEvent.{NodeEvent}
+use Rattle.schedule_text.specs.declared.event.NodeEvent.TheVariants as event
 
--- a frame comes to replica r, or its first worker takes or finishes
-abbrev pub IsFollowerEvent : ℕ → Event → Type 0
-IsFollowerEvent r (event.To replica position) = replica ≡ r
-IsFollowerEvent r (event.Take replica worker index) = (replica ≡ r) × (worker ≡ 1)
-IsFollowerEvent r (event.Finish replica worker) = (replica ≡ r) × (worker ≡ 1)
-IsFollowerEvent r other = ⊥
+-- a frame comes, or the first worker takes or finishes
+abbrev pub IsFollowerEvent : NodeEvent → Type 0
+IsFollowerEvent (event.To position) = Unit {0}
+IsFollowerEvent (event.Take worker index) = worker ≡ 1
+IsFollowerEvent (event.Finish worker) = worker ≡ 1
+IsFollowerEvent other = ⊥
 
--- a replica after events at it, one after another
-abbrev pub node_after_events : BankOf → SequencerOf → NodeOf → List Event → NodeOf
-node_after_events bank sequencer node [] = node
-node_after_events bank sequencer node (happens ∷ events) =
-    node_after_events bank sequencer (node_move bank sequencer node happens).0 events
+-- replica r after events at it, one after another
+abbrev pub node_after_events : BankOf → SequencerOf → ℕ → NodeOf → List NodeEvent → NodeOf
+node_after_events bank sequencer r node [] = node
+node_after_events bank sequencer r node (happens ∷ events) =
+    node_after_events bank sequencer r (node_move bank sequencer r node happens).0 events
 
 -- events at replica r of the machine lead from the old node to the new one
 pub record EventsLead (bank : BankOf) (sequencer : SequencerOf) (r : ℕ) (old new : NodeOf) : Type 0 where
-  pub events : List Event
-  pub at : All (IsFollowerEvent r) events
-  pub after : node_after_events bank sequencer old events ≡ new
+  pub events : List NodeEvent
+  pub at : All IsFollowerEvent events
+  pub after : node_after_events bank sequencer r old events ≡ new
 
 -- the frame is one of those that the machine sent to a replica. It sends no Flush, which is no event
 abbrev pub IsSentBefore : List Frame → Frame → Type 0

@@ -13,5 +13,6 @@ pub mod ServedAtOnce
 pub mod ServedBank
 pub mod Sessions
 pub mod StoreAfter
+pub mod StrictRuns
 pub mod Words
 pub mod inner

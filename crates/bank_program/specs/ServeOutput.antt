@@ -2,6 +2,10 @@
 use Rattle.std.specs.Prelude.{◌≡◌, ℕ, ◌+◌, Option, Some, None, IfSome, Ok, Err, List, [], ◌∷◌, ◌++◌, length, decimal, codes}
 use Rattle.std.specs.List.{All}
 use Rattle.std.specs.Io.KnownBytes.{Appends}
+use Rattle.std.specs.Net.Addr.{ipv4_octets, ipv6_segments}
+use Rattle.std.specs.Net.Text.{ipv4_text, ipv6_text}
+use Rattle.std.specs.declared.net.ip_addr.IpAddr.{IpAddr}
+use Rattle.std.specs.declared.net.ip_addr.IpAddr.TheVariants.{V4, V6}
 use Rattle.sb_rows.specs.Balances.{Balances}
 use Rattle.sb_rows.specs.Rows.{rows_of}
 use Rattle.sb_rows.specs.Text.{unlines}
@@ -13,7 +17,7 @@ use Rattle.hex.specs.Hex.{encode_lower}
 use Rattle.sb_ask_log.specs.LogFile.{log_digest}
 use Rattle.sb_sequencer.specs.Numbering.{calls_of}
 use Rattle.bank_server.specs.SessionFaults.{session_fault_number}
-use Rattle.bank_server.specs.declared.session_fault.SessionFault.TheVariants.{Frame, Unexpected, CrewGone, Device, OutOfMemory, Log, TooMany}
+use Rattle.bank_server.specs.declared.session.session_fault.SessionFault.TheVariants.{Frame, Unexpected, CrewGone, Device, OutOfMemory, Log, TooMany}
 use Rattle.bank_server.specs.Clients.{End}
 use Rattle.bank_program.specs.Sessions.{ListenerClients, ServesFirst}
 
@@ -46,9 +50,14 @@ session_lines first (end ∷ ends) = session_line first end ∷ session_lines (f
 abbrev pub IsPortOf : Option ℕ → ℕ → Type 0
 IsPortOf at port = IfSome at (λ known. port ≡ known)
 
--- `listening 127.0.0.1:PORT`
-abbrev pub port_line : ℕ → List ℕ
-port_line port = codes "listening 127.0.0.1:" ++ decimal port
+-- an address as it stands before a port
+abbrev pub host_text : IpAddr → List ℕ
+host_text (V4 address) = ipv4_text (ipv4_octets address)
+host_text (V6 address) = codes "[" ++ ipv6_text (ipv6_segments address) ++ codes "]"
+
+-- `listening HOST:PORT`
+abbrev pub port_line : IpAddr → ℕ → List ℕ
+port_line host port = codes "listening " ++ host_text host ++ (58 ∷ decimal port)
 
 -- `log`, the number of its calls, and its digest in 64 digits; a bank without a log in a file has no such
 -- line
@@ -65,12 +74,12 @@ PrintsLines lines old new = Appends old new (unlines lines)
 abbrev pub end_lines : List (List ℕ) → Balances → List (Key × Call) → List (List ℕ)
 end_lines names opening log = row_lines names (rows_after (calls_of log) (rows_of names opening))
 
--- a bank with this opening and this log before is served at a port to this many of those who are coming,
+-- a bank with this opening and this log before is served at a port of this host to this many who come,
 -- and has this log then. Each client gets the outcomes of its session. The bank prints the log's line, if
 -- it has one, the port, how each session ended, the log's line again, and the rows after the log, executed
 -- one by one
 pub record ServesBank {R W : Type 0} (sends : R → Option (List ℕ)) (gets : W → Option (List ℕ))
-    (names : List (List ℕ)) (opening : Balances) (count : ℕ) (at : Option ℕ)
+    (names : List (List ℕ)) (opening : Balances) (count : ℕ) (host : IpAddr) (at : Option ℕ)
     (clients then : Option (ListenerClients R W))
     (before log : List (Key × Call)) (text : Option (List ℕ)) (old new : Option (List ℕ)) : Type 0 where
   pub port : ℕ
@@ -79,5 +88,5 @@ pub record ServesBank {R W : Type 0} (sends : R → Option (List ℕ)) (gets : W
   pub all : length ends ≡ count
   pub go_on : All ServerContinues ends
   pub heard : ServesFirst sends gets (rows_of names opening) clients then before ends log
-  pub printed : PrintsLines (log_lines text before ++ (port_line port ∷ session_lines 1 ends
+  pub printed : PrintsLines (log_lines text before ++ (port_line host port ∷ session_lines 1 ends
       ++ log_lines text log ++ end_lines names opening log)) old new

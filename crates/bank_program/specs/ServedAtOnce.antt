@@ -22,7 +22,7 @@ pub record ServesAtOnce {S K : Type 0} (model : StoreModel S) (keeps : K → Lis
   pub ends : List End
   pub all : length ends ≡ plan.sessions
   pub go_on : All ServerContinues ends
-  pub printed : PrintsLines (log_lines (text_of before.keeper) before.log ++ (port_line port ∷ session_lines 1 ends
-      ++ log_lines (text_of before.keeper) after.log
+  pub printed : PrintsLines (log_lines (text_of before.keeper) before.log
+      ++ (port_line plan.host port ∷ session_lines 1 ends ++ log_lines (text_of before.keeper) after.log
       ++ end_lines before.node.names before.node.board.opening after.log)) old new
   pub left : IsBankAfter model keeps text_of plan.saves 1 before after

@@ -35,6 +35,6 @@ pub record ServesByPlan {R W S K : Type 0} (sends : R → Option (List ℕ)) (ge
   pub opened : PrimaryOf S K
   pub at_first : IsBankAfter model keeps text_of false 1 before opened
   pub same_log : opened.log ≡ before.log
-  pub bank : ServesBank sends gets before.node.names before.node.board.opening plan.sessions at clients then
+  pub bank : ServesBank sends gets before.node.names before.node.board.opening plan.sessions plan.host at clients then
       before.log after.log (text_of before.keeper) old new
   pub left : IsBankAfter model keeps text_of plan.saves plan.sessions before after

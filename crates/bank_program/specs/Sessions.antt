@@ -10,7 +10,7 @@ use Rattle.sb_frames.specs.declared.frame.Frame as frames
 use Rattle.bank_server.specs.Clients.{End}
 use Rattle.bank_server.specs.SessionResults.{IsFaultAt}
 use Rattle.bank_server.specs.Session.{IsFromClient, log_of_session, outcomes_of}
-use Rattle.bank_server.specs.declared.session_fault.SessionFault.TheVariants.{Frame, Unexpected}
+use Rattle.bank_server.specs.declared.session.session_fault.SessionFault.TheVariants.{Frame, Unexpected}
 use Rattle.bank_program.specs.declared.client_stream.ClientStream.{ClientStream}
 
 -- after a session that ended well nothing is left of what its client sent; otherwise the rest is

@@ -1,11 +1,17 @@
 -- The program's words; the first is its name.
 use Rattle.std.specs.Prelude.{◌≡◌, ◌≤◌, ◌⊎◌, ◌-◌, ◌^◌, ◌||◌, if◌then◌else◌, Bool, true, false, ℕ, Option, Some, None, List, [], ◌∷◌, ◌++◌, String, codes, map, string_bytes, is_some, IfSome}
 use Rattle.std.specs.Borrow.{Bor}
+use Rattle.std.specs.Net.Addr.{ipv4_octets}
+use Rattle.std.specs.Net.Grammar.{IsSocketText}
+use Rattle.std.specs.Net.Socket.{socket_ip, socket_port, socket_scope_id}
+use Rattle.std.specs.declared.net.ip_addr.IpAddr.{IpAddr}
+use Rattle.std.specs.declared.net.ip_addr.IpAddr.TheVariants.{V4, V6}
+use Rattle.std.specs.declared.net.socket_addr.SocketAddr.{SocketAddr}
+use Rattle.std.specs.Str.{bytes_eq}
 use Rattle.std.specs.Str.Parse.{IsNumeral, digits_value, without_leading_plus}
 use Rattle.clap.specs.declared.error.kind.ErrorKind.{ErrorKind}
 use Rattle.clap.specs.declared.error.kind.ErrorKind.TheVariants.{ValueValidation, OutOfMemory}
-use Rattle.cown_bench.specs.declared.bench.TheConstants.{WORKERS}
-use Rattle.sb_sequencer.specs.declared.sequencer.TheConstants.{REPLICAS}
+use Rattle.sb_calls.specs.declared.nodes.TheConstants.{REPLICAS, WORKERS}
 use Rattle.bank_program.specs.declared.serving.Plan.{Plan}
 use Rattle.bank_program.specs.declared.log_listing.Listing.TheVariants.{Asks, Rows, Check}
 use Rattle.bank_program.specs.declared.words.Words.{Words}
@@ -112,6 +118,29 @@ abbrev pub MayHaveText : List ℕ → Option (Bor (List ℕ)) → List (List ℕ
 MayHaveText option None words = (text : List ℕ) → ¬ (HasValue option text words)
 MayHaveText option (Some text) words = HasValue option text.now words
 
+-- no other machine reaches this address
+abbrev pub IsThisMachine : IpAddr → Type 0
+IsThisMachine (V4 address) = ipv4_octets address ≡ 127 ∷ 0 ∷ 0 ∷ 1 ∷ []
+IsThisMachine (V6 address) = ⊥
+
+-- this text writes this address and this port, and no scope
+abbrev pub WritesAddress : List ℕ → IpAddr → ℕ → Type 0
+WritesAddress text host port = (address : SocketAddr) × IsSocketText text address
+    × (socket_ip address ≡ host) × (socket_port address ≡ port) × (socket_scope_id address ≡ 0)
+
+-- a bank listens at the address that `--listen` has, or without it at a port of this machine alone
+abbrev pub GivesAddress : IpAddr → ℕ → List (List ℕ) → Type 0
+GivesAddress host port words =
+    ((text : List ℕ) × HasValue (codes "--listen") text words × WritesAddress text host port
+    × ((other : List ℕ) → ¬ (HasValue (codes "--port") other words)))
+    ⊎ (HasInteger (codes "--port") port words × IsThisMachine host
+    × ((text : List ℕ) → ¬ (HasValue (codes "--listen") text words)))
+
+-- the word is among these
+unfoldable pub has_word : List ℕ → List (List ℕ) → Bool
+has_word word [] = false
+has_word word (first ∷ words) = bytes_eq first word || has_word word words
+
 -- a bank that saves keeps its checkpoint in the store's folder, and one that doesn't is given none
 abbrev pub GivesStore : Bool → List ℕ → List (List ℕ) → Type 0
 GivesStore true folder words = HasValue (codes "--store") folder words
@@ -155,8 +184,14 @@ module _ {A : Type 0} where
   GivesCounts nodes workers words = HasIntegerOrDefault (codes "--nodes") 1 nodes (map string_bytes words)
       × HasIntegerOrDefault (codes "--workers") 0 workers (map string_bytes words)
 
+  -- the numbers of nodes and workers that these words give, or the defaults, and whether each line has to end
+  -- with a line feed
+  abbrev pub GivesRun : RunWords → List (String A) → Type 0
+  GivesRun run words = GivesCounts run.nodes run.workers words
+      × (run.strict ≡ has_word (codes "--strict") (map string_bytes words))
+
   -- the numbers of sessions, nodes and workers that these words give, or the defaults; and the number of
-  -- clients at once and the seconds of patience, if they give any
+  -- clients at once and the seconds of patience, if they give any; and whether it is quiet
   abbrev pub GivesPlan : Bool → Plan → List (String A) → Type 0
   GivesPlan logs plan words =
       HasIntegerOrDefault (codes "--sessions") (usual_sessions (may_be_endless logs plan.clients)) plan.sessions
@@ -164,10 +199,11 @@ module _ {A : Type 0} where
       × MayHaveInteger (codes "--clients") plan.clients (map string_bytes words)
       × GivesCounts plan.nodes plan.workers words
       × MayHaveInteger (codes "--patience") plan.patience (map string_bytes words)
+      × (plan.is_quiet ≡ has_word (codes "--quiet") (map string_bytes words))
 
-  -- the words give this port, this plan with its store's folder, and this log's folder, if any
+  -- the words give this address, this plan with its store's folder, and this log's folder, if any
   abbrev pub GivesServe : ServeWords → List (String A) → Type 0
-  GivesServe serve words = HasInteger (codes "--port") serve.port (map string_bytes words)
+  GivesServe serve words = GivesAddress serve.plan.host serve.port (map string_bytes words)
       × GivesPlan (is_some serve.log) serve.plan words
       × GivesStore serve.plan.saves serve.store.now (map string_bytes words)
       × MayHaveText (codes "--log") serve.log (map string_bytes words)
@@ -188,9 +224,9 @@ module _ {A : Type 0} where
 
   -- the words behind the second one give these values
   abbrev pub GivesValues : Words → List (String A) → Type 0
-  GivesValues (Run run) [] = (run.nodes ≡ 1) × (run.workers ≡ 0)
-  GivesValues (Run run) (name ∷ []) = (run.nodes ≡ 1) × (run.workers ≡ 0)
-  GivesValues (Run run) (name ∷ second ∷ options) = GivesCounts run.nodes run.workers options
+  GivesValues (Run run) [] = (run.nodes ≡ 1) × (run.workers ≡ 0) × (run.strict ≡ false)
+  GivesValues (Run run) (name ∷ []) = (run.nodes ≡ 1) × (run.workers ≡ 0) × (run.strict ≡ false)
+  GivesValues (Run run) (name ∷ second ∷ options) = GivesRun run options
   GivesValues Play words = Unit {0}
   GivesValues (Serve serve) words = IsOfOptions (GivesServe serve) words
   GivesValues (Log log) words = IsOfOptions (λ options. GivesLog log (map string_bytes options)) words

@@ -3,4 +3,5 @@ pub mod ListingFaults
 pub mod AtOnceSteps
 pub mod ServeSteps
 pub mod StepFaults
+pub mod CountSteps
 pub mod WordValues

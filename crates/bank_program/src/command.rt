@@ -46,7 +46,8 @@ Exit status: 0 when done, 1 if the input is refused (`smallbank: line L: FAULT`;
 then), 2 if the words are, and 3 for all else. docs/FORMATS.md has the notes.";
 
 const SERVE: &str =
-    "Serves clients over TCP, on this machine alone: one after the other, or with --clients N up to N at once.
+    "Serves clients over TCP: one after the other, or with --clients N up to N at once. Without --listen
+it does so on this machine alone.
 
 Reads an opening from standard input, as `run` does, with nothing behind its line `begin`. Prints where
 it listens, a line as each session ends, and at the end the rows of all customers and the total. A
@@ -128,7 +129,10 @@ pub(crate) fn command<'a>(alloc: Global) -> Result<Command<'a>, AllocError> {
 
 // The subcommand that runs calls.
 fn run<'a>(alloc: Global) -> Result<Command<'a>, AllocError> {
-    let args = Vec::from_array(alloc, [nodes(alloc), workers(alloc)])?;
+    let strict = flag(alloc, "strict").help(
+        "Refuses an input whose last line doesn't end with a line feed: a part may be missing",
+    );
+    let args = Vec::from_array(alloc, [nodes(alloc), workers(alloc), strict])?;
     Command::new(alloc, "run")
         .about("Runs calls from standard input")
         .long_about(RUN)
@@ -147,7 +151,8 @@ fn play<'a>(alloc: Global) -> Command<'a> {
 // The subcommand that serves.
 fn serve<'a>(alloc: Global) -> Result<Command<'a>, AllocError> {
     let args = [
-        port(alloc),
+        port(alloc)?,
+        listen(alloc)?,
         sessions(alloc),
         clients(alloc),
         nodes(alloc),
@@ -155,6 +160,7 @@ fn serve<'a>(alloc: Global) -> Result<Command<'a>, AllocError> {
         store(alloc),
         log_folder(alloc),
         patience(alloc),
+        flag(alloc, "quiet").help("Tells nothing of a session on standard error as it ends"),
     ];
     let args = Vec::from_array(alloc, args)?;
     Command::new(alloc, "serve")
@@ -176,10 +182,18 @@ fn workers<'a>(alloc: Global) -> Arg<'a> {
         .help("How many threads work for the first node; with 0 it works alone")
 }
 
-fn port<'a>(alloc: Global) -> Arg<'a> {
+fn port<'a>(alloc: Global) -> Result<Arg<'a>, AllocError> {
     number(alloc, "port", "0..65535", 0, 65_535)
-        .required(true)
         .help("Where to listen, at 127.0.0.1; with 0 at any free port")
+        .required_unless_present("listen")
+}
+
+fn listen<'a>(alloc: Global) -> Result<Arg<'a>, AllocError> {
+    Arg::new(alloc, "listen")
+        .long("listen")
+        .value_name("ADDRESS:PORT")
+        .help("Where to listen instead, as 0.0.0.0:4000 or [::1]:4000. Nothing is encrypted")
+        .conflicts_with("port")
 }
 
 fn sessions<'a>(alloc: Global) -> Arg<'a> {

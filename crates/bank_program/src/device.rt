@@ -1,5 +1,6 @@
 //! What the program reads, writes and listens at.
 use std::fmt;
+use std::net::SocketAddr;
 
 /// What the program reads, writes, or listens at.
 #[derive(Clone, Copy, Debug, PartialEq, Eq)]
@@ -24,8 +25,8 @@ pub enum Device<'a> {
     },
     /// The file at this path, as it was given.
     Path(&'a str),
-    /// This port of this machine.
-    Port(u16),
+    /// This address of this machine, or of the server that is asked.
+    Address(SocketAddr),
 }
 
 impl<'a> Device<'a> {
@@ -46,7 +47,7 @@ impl fmt::Display for Device<'_> {
             Device::File { folder, name } => write!(f, "{folder}/{name}"),
             Device::Spare { folder, name } => write!(f, "{folder}/{name}.tmp"),
             Device::Path(path) => f.write_str(path),
-            Device::Port(port) => write!(f, "127.0.0.1:{port}"),
+            Device::Address(address) => write!(f, "{address}"),
         }
     }
 }

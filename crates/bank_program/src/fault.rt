@@ -20,6 +20,9 @@ pub enum ProgramFault {
     /// A run failed.
     #[error(transparent)]
     Run(RunFault),
+    /// A strict run's input has a last line that doesn't end as lines do. Nothing was executed.
+    #[error("the last line does not end with a line feed")]
+    UnendedLine,
     /// Playing a schedule failed.
     #[error(transparent)]
     Play(ScheduleFault),

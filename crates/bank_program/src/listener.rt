@@ -4,6 +4,7 @@ ghost use Rattle.bank_program.specs.ServeOutput.{IsPortOf};
 ghost use Rattle.bank_program.specs.Sessions.{AcceptsNext, ListenerClients, LeavesClient};
 
 use crate::client_stream::ClientStream;
+use crate::first_look::FirstLook;
 use crate::socket_writer::SocketWriter;
 use bank_clients::is_of_a_client;
 use std::io;
@@ -48,6 +49,8 @@ pub trait ClientListener {
 pub struct SocketListener<'a, R: Wait, L: OpenListener> {
     rt: &'a R,
     listener: L,
+    // How who comes is looked at before it counts as a client, if it is.
+    look: Option<FirstLook>,
 }
 
 impl<'a, R: Wait, L: OpenListener> SocketListener<'a, R, L> {
@@ -55,7 +58,23 @@ impl<'a, R: Wait, L: OpenListener> SocketListener<'a, R, L> {
     pub fn new(rt: &'a R, listener: L) -> SocketListener<'a, R, L>
         ensures { result.listener ≡ listener }
     {
-        SocketListener { rt, listener }
+        SocketListener {
+            rt,
+            listener,
+            look: None,
+        }
+    }
+
+    /// The clients who come to this socket and send something, or are silent for longer than this patience,
+    /// in seconds. Who closes its connection before that isn't a client: so do health checks.
+    pub fn of_speakers(rt: &'a R, listener: L, patience: Option<usize>) -> SocketListener<'a, R, L>
+        ensures { result.listener ≡ listener }
+    {
+        SocketListener {
+            rt,
+            listener,
+            look: Some(FirstLook { patience }),
+        }
     }
 }
 
@@ -71,11 +90,15 @@ where
 
     ghost listens_at = { λ listener. None };
 
-    // It skips a client that is gone before it is accepted.
+    // It skips a client that is gone before it is accepted, or before it sends something if that counts.
     fn accept_client(&mut self) -> io::Result<ClientStream<L::Stream, SocketWriter<L::Stream>>> {
         for _ in self.rt.forever() {
             match self.listener.accept() {
-                Ok((stream, _)) => return Ok(with_second_handle(stream)),
+                Ok((stream, _)) => {
+                    if is_client(&stream, self.look) {
+                        return Ok(with_second_handle(stream));
+                    }
+                }
                 Err(error) => {
                     if !is_of_a_client(error.kind()) {
                         return Err(error);
@@ -99,6 +122,14 @@ where
 
     fn port(&self) -> io::Result<u16> {
         Ok(self.listener.local_addr()?.port())
+    }
+}
+
+// Whether who came counts as a client.
+fn is_client<T: OpenStream>(stream: &T, look: Option<FirstLook>) -> bool {
+    match look {
+        Some(look) => look.finds_client(stream),
+        None => true,
     }
 }
 

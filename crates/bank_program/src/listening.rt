@@ -1,6 +1,8 @@
-//! The port where the server listens.
-ghost use Rattle.std.specs.Prelude.{IfErr};
+//! The address where the server listens.
+ghost use Rattle.std.specs.Prelude.{◌≡◌, IfErr};
+ghost use Rattle.std.specs.Net.Socket.{socket_ip, socket_port};
 ghost use Rattle.bank_program.specs.ServeFaults.{IsPortFault};
+ghost use Rattle.bank_program.specs.Words.{IsThisMachine};
 
 use crate::device::Device;
 use crate::serve_fault::ServeFault;
@@ -11,44 +13,53 @@ use std::io;
 use std::io::ErrorKind;
 use std::net::{IpAddr, Ipv4Addr, Net, SocketAddr};
 
-/// Listens at this port of this machine, and with 0 at any free one. No other machine can reach it.
+/// Listens at this address of this machine, and with port 0 at any free port of it.
 ///
 /// Fails with [`ServeFault::PortTaken`] if another program listens there, and otherwise with a
 /// failed device. The system's error is noted.
-pub fn listen<N: Net>(net: &N, port: u16, trouble: &Trouble<'_>) -> Result<N::Listener, ServeFault>
-    ensures fault { IfErr result (IsPortFault port) }
+pub fn listen<N: Net>(
+    net: &N,
+    address: SocketAddr,
+    trouble: &Trouble<'_>,
+) -> Result<N::Listener, ServeFault>
+    ensures fault { IfErr result (IsPortFault (socket_port address)) }
 {
-    listener_of(port, trouble, net.bind(here(port)))
+    listener_of(address, trouble, net.bind(address))
 }
 
 /// Listens as [`listen`] does, for many clients at once: more of them may come before they are accepted,
 /// and no call waits for them.
 pub(crate) fn listen_for_many(
     net: &impl Net,
-    port: u16,
+    address: SocketAddr,
     trouble: &Trouble<'_>,
 ) -> Result<TcpListener, ServeFault>
-    ensures fault { IfErr result (IsPortFault port) }
+    ensures fault { IfErr result (IsPortFault (socket_port address)) }
 {
-    listener_of(port, trouble, TcpListener::bind(net, here(port)))
+    listener_of(address, trouble, TcpListener::bind(net, address))
 }
 
-/// This port of this machine.
-pub(crate) fn here(port: u16) -> SocketAddr {
-    SocketAddr::new(IpAddr::V4(Ipv4Addr::LOCALHOST), port)
+/// This port of this machine. No other machine can reach it.
+pub fn here(port: u16) -> SocketAddr
+    ensures machine { IsThisMachine (socket_ip result) }
+    ensures port { socket_port result ≡ port }
+{
+    SocketAddr::new(IpAddr::V4(Ipv4Addr::new(127, 0, 0, 1)), port)
 }
 
-// A listener at this port, unless there is none.
+// A listener at this address, unless there is none.
 fn listener_of<L: Drop>(
-    port: u16,
+    address: SocketAddr,
     trouble: &Trouble<'_>,
     made: io::Result<L>,
 ) -> Result<L, ServeFault>
-    ensures fault { IfErr result (IsPortFault port) }
+    ensures fault { IfErr result (IsPortFault (socket_port address)) }
 {
-    match trouble.noted(Device::Port(port), made) {
+    match trouble.noted(Device::Address(address), made) {
         Ok(listener) => Ok(listener),
-        Err(error) if error.kind() == ErrorKind::AddrInUse => Err(ServeFault::PortTaken(port)),
+        Err(error) if error.kind() == ErrorKind::AddrInUse => {
+            Err(ServeFault::PortTaken(address.port()))
+        }
         Err(_) => Err(ServeFault::Run(RunFault::Device)),
     }
 }

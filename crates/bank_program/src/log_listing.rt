@@ -21,6 +21,7 @@ use crate::list_fault::ListFault;
 use crate::opening::whole_opening;
 use crate::printing::log_line;
 use bank_server::Primary;
+use cown_board::Runs;
 use cown_workers::InlineCrew;
 use itoa::Buffer;
 use sb_amount::{Cents, print};

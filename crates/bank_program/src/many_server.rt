@@ -120,7 +120,7 @@ where
         // The log that the bank opens with is executed, and sent to the followers.
         finish_session(&mut self.primary, followers, false, crew)?;
         print_log(self.alloc, &self.primary, &mut self.writer)?;
-        print_port_number(self.alloc, self.port, &mut self.writer)?;
+        print_port_number(self.alloc, self.plan.host, self.port, &mut self.writer)?;
         self.serve_all(rt, followers, crew)?;
         finish_session(&mut self.primary, followers, self.plan.saves, crew)?;
         followers.compare(rt, self.primary.node())?;

@@ -1,6 +1,6 @@
 //! The values of options among the program's words.
 ghost use Rattle.std.specs.Prelude.{◌≡◌, ◌≢◌, ◌++◌, ◌∷◌, IfSome, MatchOption, map, string_bytes};
-ghost use Rattle.bank_program.specs.Words.{HasIntegerOrDefault, MayHaveInteger, HasInteger, HasValue};
+ghost use Rattle.bank_program.specs.Words.{HasIntegerOrDefault, MayHaveInteger, HasInteger, HasValue, has_word};
 
 /// The number that an option has, or the default. `None` if its value isn't a number.
 pub(crate) fn parse_count(words: &[String], option: &str, standard: usize) -> Option<usize>
@@ -49,6 +49,20 @@ pub(crate) fn value<'a>(words: &'a [String], option: &str) -> Option<&'a str>
         rest = others;
     }
     None
+}
+
+/// Whether a word is among these.
+pub(crate) fn has_word(words: &[String], word: &str) -> bool
+    ensures { result ≡ has_word word.now (map string_bytes words.now) }
+{
+    let mut rest = words;
+    while let Some((first, others)) = rest.split_first() {
+        if first.as_str() == word {
+            return true;
+        }
+        rest = others;
+    }
+    false
 }
 
 // What follows the option and `=`.

@@ -1,51 +1,78 @@
 //! What a served bank prints.
-ghost use Rattle.std.specs.Prelude.{◌≡◌, [], ◌∷◌, ◌++◌, codes, decimal, IfErr, IfOk, OnOk};
+ghost use Rattle.std.specs.Prelude.{◌≡◌, [], ◌∷◌, ◌++◌, codes, decimal, string_bytes, IfErr, IfOk, OnOk};
 ghost use Rattle.hex.specs.Hex.{encode_lower};
 ghost use Rattle.bank_server.specs.Primary.{HasWholeLog};
 ghost use Rattle.bank_program.specs.inner.StepFaults.{IsPrintFault};
-ghost use Rattle.bank_program.specs.ServeOutput.{PrintsLines, end_text, port_line, session_line};
+ghost use Rattle.bank_program.specs.ServeOutput.{PrintsLines, end_text, host_text, port_line, session_line};
 ghost use Rattle.bank_program.specs.inner.ServeSteps.{PrintsLog, PrintsPort, PrintsRows};
 
 use crate::listener::ClientListener;
 use crate::serve_fault::ServeFault;
 use bank_server::{Primary, SessionFault};
+use cown_board::Runs;
 use itoa::Buffer;
 use sb_ask_log::Keeper;
 use sb_checkpoint::CheckpointStore;
 use sb_text::{list_rows, write_whole};
 use std::alloc::{AllocError, Global};
 use std::io::Write;
+use std::net::IpAddr;
 
-/// Prints the address where the server listens.
+/// Prints the address where the server listens, at this host.
 ///
 /// Fails if the port can't be found out, if a write fails, or if memory is refused.
 pub(crate) fn print_port<D: ClientListener, W: Write>(
     alloc: Global,
+    host: IpAddr,
     listener: &D,
     writer: &mut W,
 ) -> Result<(), ServeFault>
-    ensures printed { OnOk result (PrintsPort (D.listens_at listener.now)
+    ensures printed { OnOk result (PrintsPort host (D.listens_at listener.now)
         (W.contents writer.old) (W.contents writer.new)) }
     ensures fault { IfErr result IsPrintFault }
 {
     let port = listener.port()?;
-    print_port_number(alloc, port, writer)
+    print_port_number(alloc, host, port, writer)
 }
 
-/// Prints the address of a server that listens at this port.
+/// Prints the address of a server that listens at this port of this host.
 ///
 /// Fails if a write fails, or if memory is refused.
 pub(crate) fn print_port_number<W: Write>(
     alloc: Global,
+    host: IpAddr,
     port: u16,
     writer: &mut W,
 ) -> Result<(), ServeFault>
-    ensures printed { OnOk result (PrintsLines (port_line port ∷ [])
+    ensures printed { OnOk result (PrintsLines (port_line host port ∷ [])
         (W.contents writer.old) (W.contents writer.new)) }
     ensures fault { IfErr result IsPrintFault }
 {
-    let mut line = numbered(alloc, b"listening 127.0.0.1:", usize::from(port))?;
+    let mut line = port_line(alloc, host, port)?;
     print_line(&mut line, writer)
+}
+
+// `listening`, and the address.
+fn port_line(alloc: Global, host: IpAddr, port: u16) -> Result<Vec<u8>, AllocError>
+    ensures { IfOk result (λ line. line.items ≡ port_line host port) }
+{
+    let host = host_text(alloc, host)?;
+    let mut buffer = Buffer::new();
+    let mut line = Vec::from_slice(alloc, b"listening ")?;
+    line.extend_from_slice(host.as_bytes())?;
+    line.push(b':')?;
+    line.extend_from_slice(buffer.format(port).as_bytes())?;
+    Ok(line)
+}
+
+// An address as it stands before a port.
+fn host_text(alloc: Global, host: IpAddr) -> Result<String, AllocError>
+    ensures { IfOk result (λ text. string_bytes text ≡ host_text host) }
+{
+    match host {
+        IpAddr::V4(address) => format!(in alloc; "{address}"),
+        IpAddr::V6(address) => format!(in alloc; "[{address}]"),
+    }
 }
 
 /// Prints how a session ended.

@@ -3,6 +3,7 @@ ghost use Rattle.std.specs.Prelude.{IfErr};
 ghost use Rattle.bank_program.specs.Faults.{IsAskProgramFault};
 ghost use Rattle.bank_program.specs.ServeFaults.{IsDeviceFault};
 
+use crate::answer_watch::AskWatch;
 use crate::device::Device;
 use crate::fault::ProgramFault;
 use crate::listening::here;
@@ -18,8 +19,9 @@ use std::random::RandomSource;
 use std::time::Clock;
 
 /// Asks the bank that is served at a port of this machine the calls of standard input, and prints their
-/// outcomes. Without a client's number it takes one at random, and tells it on standard error. An error
-/// of a stream or a connection is noted.
+/// outcomes. Without a client's number it takes one at random, and tells it on standard error. At the end
+/// it tells there how many of the outcomes were no replies, if some were. An error of a stream or a
+/// connection is noted.
 ///
 /// Fails as [`ask_all`] does, and with a failed device if the system gives no random number.
 pub fn ask_program<H: Net + Clock>(
@@ -41,16 +43,18 @@ pub fn ask_program<H: Net + Clock>(
     };
     let mut dialer = Watch {
         inner: SocketDialer::new(net, here(words.port), None),
-        device: Device::Port(words.port),
+        device: Device::Address(here(words.port)),
         trouble,
     };
+    let mut writer = AskWatch::new(output(rt, trouble));
     ask_all(
         rt.alloc(),
         plan,
         &mut input(rt, trouble),
         &mut dialer,
-        &mut output(rt, trouble),
+        &mut writer,
     )?;
+    writer.counts().tell(rt);
     Ok(())
 }
 

@@ -10,6 +10,7 @@ use crate::serve_fault::ServeFault;
 use crate::serving::Plan;
 use crate::serving_many::serve_many;
 use crate::standard_streams::output;
+use crate::told_sockets::ToldSockets;
 use crate::trouble::Trouble;
 use bank_clients::{ClientSockets, Limits, Sessions};
 use bank_server::Primary;
@@ -17,12 +18,13 @@ use cown_bench::WORKERS;
 use sb_ask_log::Keeper;
 use sb_checkpoint::CheckpointStore;
 use sb_sequencer::REPLICAS;
-use std::net::Net;
+use std::net::{Net, SocketAddr};
 use std::sync::Wait;
 use std::thread::Threads;
 use std::time::{Clock, Duration};
 
-/// Serves up to this many clients of a bank at once, at a port. An error of the system is noted.
+/// Serves up to this many clients of a bank at once, at a port of the plan's host. An error of the system is
+/// noted.
 pub(crate) fn serve_clients_at<H, S, K>(
     rt: &HostRuntime,
     threads: &H,
@@ -50,10 +52,16 @@ where
             .patience
             .map(|seconds| Duration::from_secs(seconds as u64)),
     };
-    let listener = listen_for_many(threads, port, trouble)?;
+    let address = SocketAddr::new(plan.host, port);
+    let listener = listen_for_many(threads, address, trouble)?;
     let made = ClientSockets::new(threads, threads, alloc, listener, limits);
-    let connections = trouble.noted(Device::Port(port), made)?;
-    let port = trouble.noted(Device::Port(port), connections.port())?;
+    let connections = trouble.noted(Device::Address(address), made)?;
+    let port = trouble.noted(Device::Address(address), connections.port())?;
+    let connections = ToldSockets {
+        inner: connections,
+        rt: *rt,
+        is_quiet: plan.is_quiet,
+    };
     let sessions = Sessions::open(alloc, connections, clients)?;
     serve_many(
         threads,

@@ -17,6 +17,8 @@ use crate::serve_fault::ServeFault;
 use crate::server::Server;
 use crate::serving::{Plan, serve, serve_bank};
 use crate::standard_streams::{are_open, input, output};
+use crate::store_folder::{CHECKPOINT, StoreLock, tell_earlier};
+use crate::told_listener::ToldListener;
 use crate::trouble::Trouble;
 use crate::watch::Watch;
 use bank_server::{Primary, RunFault};
@@ -29,7 +31,7 @@ use sb_sequencer::REPLICAS;
 use sb_text::read_all;
 use std::alloc::{AllocError, Global};
 use std::io::{Read, Write};
-use std::net::{Net, OpenStream};
+use std::net::{Net, OpenStream, SocketAddr};
 use std::sync::Wait;
 use std::thread::Threads;
 use std::time::Clock;
@@ -37,19 +39,22 @@ use std::time::Clock;
 // A store in a folder of the system.
 type SystemStore<'t, 'd> = FileStore<Watch<'t, 'd, FolderFile<HostRuntime>>>;
 
+// Clients of the system's sockets, one after another.
+type SystemClients<'t, 'd, 'r, H> = ToldListener<
+    Watch<'t, 'd, SocketListener<'r, H, <H as Net>::Listener>>,
+>;
+
 // A bank on a log's file of the system.
 type SystemBank<'t, 'd, 'r> = Primary<SystemStore<'t, 'd>, AskLog<SystemFile<'r>>>;
 
-// The file name of node 0's checkpoint.
-const CHECKPOINT: &str = "node0.ckpt";
-
-/// Serves the bank of the opening in standard input at a port. If the plan saves, node 0 keeps its
+/// Serves the bank of the opening in standard input at a port of the plan's host. If the plan saves, node 0 keeps its
 /// checkpoint in the first folder. The log is kept in the second one, if there is one: then standard input
 /// may be empty where the log goes on. A fault of the log's file is told on standard error, and an error
 /// of any other device is noted.
 ///
-/// The server listens only after the whole input was read and checked, the log's folder read, and the
-/// store's folder tried.
+/// A file or a socket would take the place of a standard stream that is closed, so all of them must be open.
+/// The store's folder is locked as long as the bank is served. The server listens only after the whole
+/// input was read and checked, the log's folder read, and the store's folder tried.
 pub fn serve_program<'d, H>(
     rt: &HostRuntime,
     threads: &H,
@@ -65,11 +70,18 @@ where
     requires workers { plan.workers ≤ WORKERS }
     ensures fault { IfErr result (IsProgramFault port plan (is_some log.entry)) }
 {
+    if !are_open(rt, trouble) {
+        return Err(ServeFault::Run(RunFault::Device));
+    }
     if let Some(log) = log {
         return serve_with_log(rt, threads, port, folder, log, plan, trouble);
     }
     let opening = read_opening(rt, trouble)?;
-    let store = store_of(rt, folder, plan.saves, trouble)?;
+    let mut lock = StoreLock::new();
+    let store = store_of(rt, folder, plan.saves, &mut lock, trouble)?;
+    if plan.saves {
+        tell_earlier(rt, folder);
+    }
     serve_at(rt, threads, port, opening, store, plan, trouble)
 }
 
@@ -90,7 +102,9 @@ where
     ensures fault { IfErr result (IsProgramFault port plan true) }
 {
     let reason = Reason::new();
-    let served = match open_on_log(rt, folder, plan.saves, log, &reason, trouble) {
+    let mut lock = StoreLock::new();
+    let opened = open_on_log(rt, folder, plan.saves, log, &mut lock, &reason, trouble);
+    let served = match opened {
         Ok(opened) => serve_opened(rt, threads, port, opened, plan, trouble),
         Err(fault) => Err(fault),
     };
@@ -113,6 +127,7 @@ fn open_on_log<'t, 'd, 'r>(
     folder: &'d str,
     saves: bool,
     log: &str,
+    lock: &mut StoreLock,
     reason: &'r Reason,
     trouble: &'t Trouble<'d>,
 ) -> Result<Box<SystemBank<'t, 'd, 'r>>, ServeFault>
@@ -120,16 +135,16 @@ fn open_on_log<'t, 'd, 'r>(
     ensures fault { IfErr result (IsOpenFault saves) }
 {
     let alloc = rt.alloc();
-    if !are_open(rt, trouble) {
-        return Err(ServeFault::Run(RunFault::Device));
-    }
     let mut file = SystemFile::open(rt, log, LOG, reason)?;
     let input = read_all(alloc, &mut input(rt, trouble))?;
-    let store = store_of(rt, folder, saves, trouble)?;
+    let store = store_of(rt, folder, saves, lock, trouble)?;
     let found = find_bank(alloc, &mut file, &input)?;
     if found.cut > 0 {
         let report = CutReport { bytes: found.cut };
         let _ = eprintln!(rt; "{report}");
+    }
+    if saves && found.log.log.length() == 0 {
+        tell_earlier(rt, folder);
     }
     let primary = open_on_file(alloc, file, found, store)?;
     Ok(Box::new(alloc, primary)?)
@@ -154,7 +169,7 @@ where
     if let Some(clients) = plan.clients {
         return serve_clients_at(rt, threads, port, opened, clients, plan, trouble);
     }
-    let listener = clients_at(threads, port, trouble)?;
+    let listener = clients_at(rt, threads, port, plan, true, trouble)?;
     serve_bank(
         threads,
         Server {
@@ -168,22 +183,37 @@ where
     Ok(())
 }
 
-// The clients who come to a port, one after another.
+// The clients who come to a port of the plan's host, one after another. Of a bank with a log they are those
+// who send something.
 fn clients_at<'t, 'd, 'r, H>(
+    rt: &HostRuntime,
     threads: &'r H,
     port: u16,
+    plan: Plan,
+    logs: bool,
     trouble: &'t Trouble<'d>,
-) -> Result<Watch<'t, 'd, SocketListener<'r, H, H::Listener>>, ServeFault>
+) -> Result<SystemClients<'t, 'd, 'r, H>, ServeFault>
 where
     H: Wait + Net,
     ensures fault { IfErr result (IsPortFault port) }
 {
-    let inner = SocketListener::new(threads, listen(threads, port, trouble)?);
-    let device = Device::Port(port);
-    Ok(Watch {
+    let address = SocketAddr::new(plan.host, port);
+    let listener = listen(threads, address, trouble)?;
+    let inner = if logs {
+        SocketListener::of_speakers(threads, listener, plan.patience)
+    } else {
+        SocketListener::new(threads, listener)
+    };
+    let inner = Watch {
         inner,
-        device,
+        device: Device::Address(address),
         trouble,
+    };
+    Ok(ToldListener {
+        inner,
+        rt: *rt,
+        is_quiet: plan.is_quiet,
+        came: None,
     })
 }
 
@@ -197,12 +227,13 @@ fn read_opening(rt: &HostRuntime, trouble: &Trouble<'_>) -> Result<Box<Opening>,
     Ok(Box::new(alloc, opening)?)
 }
 
-// A store in this folder, which can be written. One of a bank that saves nothing isn't tried: it is
-// never used, but a bank is always served over one type of store.
+// A store in this folder, which is locked, and can be written. One of a bank that saves nothing isn't tried:
+// it is never used, but a bank is always served over one type of store.
 fn store_of<'t, 'd>(
     rt: &HostRuntime,
     folder: &'d str,
     saves: bool,
+    lock: &mut StoreLock,
     trouble: &'t Trouble<'d>,
 ) -> Result<SystemStore<'t, 'd>, ServeFault>
     ensures fault { IfErr result (IsStoreFault saves) }
@@ -216,6 +247,7 @@ fn store_of<'t, 'd>(
     if !saves {
         return Ok(FileStore::new(file));
     }
+    lock.lock(rt, folder, trouble)?;
     store_in(file)
 }
 
@@ -254,7 +286,7 @@ where
         let primary = boxed_primary(rt.alloc(), opening, store)?;
         return serve_clients_at(rt, threads, port, primary, clients, plan, trouble);
     }
-    let listener = clients_at(threads, port, trouble)?;
+    let listener = clients_at(rt, threads, port, plan, false, trouble)?;
     serve(
         threads,
         rt.alloc(),

@@ -31,7 +31,8 @@ pub fn told(fault: ProgramFault) -> Report
     let status = match &fault {
         ProgramFault::Run(fault) | ProgramFault::Serve(ServeFault::Run(fault)) => run_status(fault),
         ProgramFault::Log(fault) => list_status(*fault),
-        ProgramFault::Play(ScheduleFault::Input { .. })
+        ProgramFault::UnendedLine
+        | ProgramFault::Play(ScheduleFault::Input { .. })
         | ProgramFault::Checkpoint(_)
         | ProgramFault::Ask(AskFault::Line { .. } | AskFault::NoNumber(_)) => 1,
         ProgramFault::Play(ScheduleFault::Device | ScheduleFault::OutOfMemory)
@@ -39,6 +40,7 @@ pub fn told(fault: ProgramFault) -> Report
         | ProgramFault::Serve(
             ServeFault::ReadBack
             | ServeFault::Store
+            | ServeFault::StoreInUse
             | ServeFault::PortTaken(_)
             | ServeFault::Log(_)
             | ServeFault::AnotherOpening,

@@ -25,6 +25,9 @@ pub enum ServeFault {
     /// No checkpoint can be put into the store's folder. The server didn't listen.
     #[error("the store's folder takes no file")]
     Store,
+    /// Another server has this store. The server didn't listen.
+    #[error("store: in use")]
+    StoreInUse,
     /// Another program listens at this port.
     #[error("port {0} is taken")]
     PortTaken(u16),

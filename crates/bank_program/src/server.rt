@@ -109,7 +109,7 @@ where
         // The log that the bank opens with is executed, and sent to the followers.
         finish_session(&mut self.primary, followers, false, crew)?;
         print_log(self.alloc, &self.primary, &mut self.writer)?;
-        print_port(self.alloc, &self.listener, &mut self.writer)?;
+        print_port(self.alloc, self.plan.host, &self.listener, &mut self.writer)?;
         self.serve_all(rt, followers, crew)?;
         followers.compare(rt, self.primary.node())?;
         print_log(self.alloc, &self.primary, &mut self.writer)?;

@@ -21,6 +21,7 @@ use sb_rows::Opening;
 use sb_sequencer::REPLICAS;
 use std::alloc::Global;
 use std::io::Write;
+use std::net::IpAddr;
 use std::sync::Wait;
 use std::thread::Threads;
 use std::time::Clock;
@@ -28,6 +29,8 @@ use std::time::Clock;
 /// How a bank is served.
 #[derive(Clone, Copy, Debug, PartialEq, Eq)]
 pub struct Plan {
+    /// The address of this machine at which clients come.
+    pub host: IpAddr,
     /// How many sessions there are.
     pub sessions: usize,
     /// How many clients are served at once: 1 to 1,000. Without a number it is one after another.
@@ -41,6 +44,8 @@ pub struct Plan {
     /// How many seconds each read and each write waits for a client or, of many at once, for how many
     /// seconds a client may be silent; `None` is for ever.
     pub patience: Option<usize>,
+    /// Whether nothing is told of a session on standard error as it ends.
+    pub is_quiet: bool,
 }
 
 /// A bank that was served.
@@ -88,8 +93,8 @@ where
     // The log is that of the clients' sessions, each client gets the outcomes of its session, and the
     // printed rows are those after the log.
     ensures served { IfOk result (λ bank. ServesBank D.Reader.remaining D.Writer.contents opening.directory
-        opening.columns plan.sessions (D.listens_at listener) (D.clients listener) (D.clients bank.listener) []
-        bank.primary.log None (W.contents writer) (W.contents bank.writer)) }
+        opening.columns plan.sessions plan.host (D.listens_at listener) (D.clients listener)
+        (D.clients bank.listener) [] bank.primary.log None (W.contents writer) (W.contents bank.writer)) }
     ensures one_each { IfOk result (λ bank. IsLog bank.primary.log) }
     ensures whole_log { IfOk result (λ bank. HasWholeLog bank.primary) }
     ensures names { IfOk result (λ bank. bank.primary.node.names ≡ opening.directory) }

@@ -25,11 +25,11 @@ pub use serve::ServeWords;
 use serve::serve_words;
 use std::alloc::{AllocError, Global};
 
-// The text for words that clap takes and `parse_words` doesn't. None are known.
+// The text for words that clap takes and `parse_words` doesn't: an address that is none. No others are known.
 const UNREAD: &str =
     "these take 1 to 16 nodes, 0 to 16 workers, 1 to 1000 clients at once, 1 to 1000 sessions without \
-    these or a log, 1 to 86400 seconds, a port and a client's numbers, as plain numbers, and a log's folder or a \
-    checkpoint's file with one flag at most";
+    these or a log, 1 to 86400 seconds, a port and a client's numbers, as plain numbers, an address as 0.0.0.0:4000 or \
+    [::1]:4000, and a log's folder or a checkpoint's file with one flag at most";
 
 const NO_TEXT: &str = "a word isn't UTF-8";
 
@@ -111,6 +111,7 @@ fn parse_words<'a>(words: &'a [String]) -> Option<Words<'a>>
         return Some(Words::Run(RunWords {
             nodes: 1,
             workers: 0,
+            strict: false,
         }));
     };
     let options = &words[2..];

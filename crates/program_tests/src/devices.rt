@@ -1,7 +1,7 @@
 //! Devices that fail, and what is told of them.
 ghost use Rattle.std.specs.Prelude.{None};
 
-use bank_program::{Device, Trouble, Watch};
+use bank_program::{Device, Trouble, Watch, here};
 use sb_checkpoint::{CheckpointStore, FileStore, FileWithSpare, StoreFault};
 use sb_text::{ReadFault, read_all, write_whole};
 use std::alloc::Global;
@@ -130,7 +130,10 @@ fn errors_without_the_words_of_the_system(rt: HostRuntime) {
     let interrupted = io::Error::from_raw_os_error(INTERRUPTED);
     trouble.note(Device::Output, &interrupted);
     expect_cause(&rt, alloc, &trouble, None);
-    trouble.note(Device::Port(80), &io::Error::from_raw_os_error(NO_RIGHT));
+    trouble.note(
+        Device::Address(here(80)),
+        &io::Error::from_raw_os_error(NO_RIGHT),
+    );
     let refused = "smallbank: 127.0.0.1:80: Permission denied (os error 13)";
     expect_cause(&rt, alloc, &trouble, Some(refused));
     trouble.note(Device::Output, &io::Error::from(ErrorKind::WriteZero));

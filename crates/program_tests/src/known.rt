@@ -2,7 +2,7 @@
 ghost use Rattle.std.specs.Prelude.{OnOk, Some};
 ghost use Rattle.bank_program.specs.Sessions.{LeavesClient};
 
-use crate::served::{ASKED, DEPOSIT, GARBAGE, OPENING, TOLD};
+use crate::served::{ASKED, DEPOSIT, GARBAGE, HERE, OPENING, TOLD};
 use bank_program::{ClientListener, ClientStream, Plan, serve};
 use sb_checkpoint::MemoryStore;
 use sb_rows::read_opening;
@@ -85,12 +85,14 @@ fn each_client_gets_its_outcomes(rt: HostRuntime) {
     let listener = Known { coming, left };
     let opening = read_opening(alloc, OPENING).expect(&rt, "an opening");
     let plan = Plan {
+        host: HERE,
         sessions: 3,
         clients: None,
         nodes: 1,
         workers: 0,
         saves: false,
         patience: None,
+        is_quiet: true,
     };
     let (store, written) = (MemoryStore::new(alloc), Vec::new(alloc));
     let bank = serve(&rt, alloc, listener, opening, store, plan, written).expect(&rt, "served");

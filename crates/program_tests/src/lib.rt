@@ -3,6 +3,8 @@
 #![tactic(auto)]
 
 #[cfg(test)]
+mod answers;
+#[cfg(test)]
 mod clients;
 #[cfg(test)]
 mod devices;
@@ -14,6 +16,8 @@ mod known;
 mod lines;
 #[cfg(test)]
 mod logs;
+#[cfg(test)]
+mod notes;
 #[cfg(test)]
 mod openings;
 #[cfg(test)]

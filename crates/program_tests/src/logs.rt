@@ -1,6 +1,6 @@
 //! Banks on a log, and what is listed of it.
 use crate::clients::{Client, TestListener, Transcript};
-use crate::served::{ASKED, GARBAGE, OPENING, TOLD, plain};
+use crate::served::{ASKED, GARBAGE, HERE, OPENING, TOLD, plain};
 use bank_program::{
     ListFault, Listing, Plan, ServeFault, ServedBank, Server, find_bank, list_log, open_on_file,
     serve_bank,
@@ -44,12 +44,14 @@ fn serve_on(
     let primary = open_on_file(alloc, file, found, MemoryStore::new(alloc)).expect(rt, "a bank");
     let mut written: Vec<u8> = Vec::new(alloc);
     let plan = Plan {
+        host: HERE,
         sessions: clients.len(),
         clients: None,
         nodes: 2,
         workers: 0,
         saves: false,
         patience: None,
+        is_quiet: true,
     };
     let server = Server {
         alloc,

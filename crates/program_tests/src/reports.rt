@@ -61,6 +61,7 @@ fn faults_of_a_server_told(rt: HostRuntime) {
             3,
             "smallbank: the store's folder takes no file",
         ),
+        (ServeFault::StoreInUse, 3, "smallbank: store: in use"),
         (
             ServeFault::PortTaken(4000),
             3,

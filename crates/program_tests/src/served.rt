@@ -10,10 +10,14 @@ use sb_checkpoint::{CheckpointStore, How, MemoryStore, StoreFault};
 use sb_rows::{Name, read_opening};
 use sb_sequencer::REPLICAS;
 use std::alloc::Global;
+use std::net::{IpAddr, Ipv4Addr};
 use std::process::Abort;
 use std::sync::Wait;
 use std::thread::Threads;
 use std::time::Clock;
+
+/// The address of this machine alone.
+pub const HERE: IpAddr = IpAddr::V4(Ipv4Addr::LOCALHOST);
 
 pub(crate) const OPENING: &[u8] = b"alice 100.00 50.00\nbob 0.00 20.00\nbegin\n";
 
@@ -101,12 +105,14 @@ fn two_sessions_and_one_at_fault(rt: HostRuntime) {
     for (nodes, workers) in [(1, 0), (1, 2), (3, 0), (16, 16)] {
         for saves in [false, true] {
             let plan = Plan {
+                host: HERE,
                 sessions: 3,
                 clients: None,
                 nodes,
                 workers,
                 saves,
                 patience: None,
+                is_quiet: true,
             };
             let store = MemoryStore::new(alloc);
             let hung_up = expect(&rt, alloc, &clients, store, plan, Ok(()), printed, TOLD);
@@ -137,12 +143,14 @@ fn sessions_at_fault(rt: HostRuntime) {
         plain(b""),
     ];
     let plan = Plan {
+        host: HERE,
         sessions: 7,
         clients: None,
         nodes: 2,
         workers: 1,
         saves: true,
         patience: None,
+        is_quiet: true,
     };
     let printed = "listening 127.0.0.1:4000\nsession 1 fault 1\nsession 2 fault 2\n\
         session 3 fault 4\nsession 4 fault 4\nsession 5 fault 4\nsession 6 ok\nsession 7 ok\n\
@@ -156,12 +164,14 @@ fn sessions_at_fault(rt: HostRuntime) {
 fn nobody_else_is_let_in(rt: HostRuntime) {
     let alloc = rt.alloc();
     let plan = Plan {
+        host: HERE,
         sessions: 2,
         clients: None,
         nodes: 1,
         workers: 0,
         saves: false,
         patience: None,
+        is_quiet: true,
     };
     let ends = Err(ServeFault::Run(RunFault::Device));
     let printed = "listening 127.0.0.1:4000\nsession 1 ok\n";
@@ -180,12 +190,14 @@ fn nobody_else_is_let_in(rt: HostRuntime) {
 
 // A bank of two sessions that saves.
 const SAVING: Plan = Plan {
+    host: HERE,
     sessions: 2,
     clients: None,
     nodes: 1,
     workers: 0,
     saves: true,
     patience: None,
+    is_quiet: true,
 };
 
 // What it prints if its first session can't be saved.
@@ -270,12 +282,14 @@ fn serve_one_beside(
     let server = Server {
         alloc,
         plan: Plan {
+            host: HERE,
             sessions: 1,
             clients: None,
             nodes,
             workers: 0,
             saves: false,
             patience: None,
+            is_quiet: true,
         },
         listener: TestListener::of(alloc, &[plain(ASKED)], &told).expect(rt, "a listener"),
         primary: Box::into_inner(bank_of(rt, alloc, OPENING)),

@@ -1,5 +1,6 @@
 //! Banks that are served over the system's sockets.
-use bank_program::{Plan, ServeFault, SocketListener, Trouble, listen, serve};
+use crate::served::HERE;
+use bank_program::{Plan, ServeFault, SocketListener, Trouble, here, listen, serve};
 use sb_checkpoint::MemoryStore;
 use sb_rows::read_opening;
 use std::io::{Read, Write};
@@ -49,21 +50,23 @@ const DONE: &[u8] = b"\x00\x13\x05\0\0\0\x07\0\0\0\x02\0\x01\0\0\0\0\0\0\0\0";
 fn clients_over_sockets(rt: HostRuntime) {
     let alloc = rt.alloc();
     let trouble = Trouble::new(alloc);
-    let listener = listen(&rt, 0, &trouble).expect(&rt, "a port");
+    let listener = listen(&rt, here(0), &trouble).expect(&rt, "a port");
     let port = listener.local_addr().expect(&rt, "an address").port();
-    assert!(&rt; listen(&rt, port, &trouble).err() == Some(ServeFault::PortTaken(port)));
+    assert!(&rt; listen(&rt, here(port), &trouble).err() == Some(ServeFault::PortTaken(port)));
     let opening = read_opening(alloc, b"bob 0.00 20.00\nbegin\n").expect(&rt, "an opening");
     let (served, told) = thread::join(
         &rt,
         || {
             let store = MemoryStore::new(alloc);
             let plan = Plan {
+                host: HERE,
                 sessions: 2,
                 clients: None,
                 nodes: 2,
                 workers: 1,
                 saves: true,
                 patience: None,
+                is_quiet: true,
             };
             let clients = SocketListener::new(&rt, listener);
             serve(&rt, alloc, clients, opening, store, plan, Vec::new(alloc))

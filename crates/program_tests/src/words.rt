@@ -1,15 +1,21 @@
 //! The program's words.
+use crate::served::HERE;
 use bank_program::{
     AskWords, CheckpointView, CheckpointWords, Listing, LogAction, LogWords, Plan, RunWords,
     ServeWords, Words, read_words, refuse_bytes,
 };
 use clap::Error;
 use std::alloc::Global;
+use std::net::{IpAddr, Ipv4Addr, Ipv6Addr};
 use std::process::Abort;
 
 // A run with these nodes and workers.
 fn run_of(nodes: usize, workers: usize) -> Words<'static> {
-    Words::Run(RunWords { nodes, workers })
+    Words::Run(RunWords {
+        nodes,
+        workers,
+        strict: false,
+    })
 }
 
 // These words after the program's name.
@@ -61,26 +67,41 @@ fn words_of_the_program(rt: HostRuntime) {
     expect(&rt, alloc, &["run", "--workers", "16", "--nodes=16"], both);
     expect(&rt, alloc, &["run", "--nodes", "2"], two);
     expect(&rt, alloc, &["play"], Words::Play);
+    for words in [
+        ["run", "--strict", "--nodes=3"],
+        ["run", "--nodes=3", "--strict"],
+    ] {
+        let strict = RunWords {
+            nodes: 3,
+            workers: 0,
+            strict: true,
+        };
+        expect(&rt, alloc, &words, Words::Run(strict));
+    }
 }
 
 // A bank that is served with no option but the port.
 const SERVED_AS_USUAL: Plan = Plan {
+    host: HERE,
     sessions: 1,
     clients: None,
     nodes: 1,
     workers: 0,
     saves: false,
     patience: None,
+    is_quiet: false,
 };
 
 // A bank that is served with the greatest number for each option.
 const SERVED_AT_MOST: Plan = Plan {
+    host: HERE,
     sessions: 1_000,
     clients: None,
     nodes: 16,
     workers: 16,
     saves: true,
     patience: Some(86_400),
+    is_quiet: false,
 };
 
 // A bank that is served so.
@@ -123,6 +144,52 @@ fn words_of_a_server(rt: HostRuntime) {
     ];
     expect(&rt, alloc, &apart, all);
     expect(&rt, alloc, &joined, all);
+}
+
+#[test]
+fn words_of_a_quiet_server(rt: HostRuntime) {
+    let plan = Plan {
+        is_quiet: true,
+        ..SERVED_AS_USUAL
+    };
+    let quiet = served_at(0, plan, ".", None);
+    expect(&rt, rt.alloc(), &["serve", "--port=0", "--quiet"], quiet);
+}
+
+#[test]
+fn words_of_a_server_at_an_address(rt: HostRuntime) {
+    let every = IpAddr::V4(Ipv4Addr::UNSPECIFIED);
+    let local = IpAddr::V6(Ipv6Addr::LOCALHOST);
+    for (words, port, host) in [
+        (
+            ["serve", "--listen=0.0.0.0:4000", "--nodes=1"],
+            4_000,
+            every,
+        ),
+        (["serve", "--listen=[::1]:0", "--nodes=1"], 0, local),
+        (["serve", "--nodes=1", "--port=7"], 7, HERE),
+    ] {
+        let plan = Plan {
+            host,
+            ..SERVED_AS_USUAL
+        };
+        expect(&rt, rt.alloc(), &words, served_at(port, plan, ".", None));
+    }
+    let refused: [(&[&str], &str); 6] = [
+        (&["serve", "--port=1", "--listen=[::1]:2"], "--listen"),
+        (&["serve", "--listen"], "<ADDRESS:PORT>"),
+        (&["serve", "--listen=4000"], "an address as 0.0.0.0:4000"),
+        (&["serve", "--listen=::1"], "an address as 0.0.0.0:4000"),
+        (
+            &["serve", "--listen=bank:4000"],
+            "an address as 0.0.0.0:4000",
+        ),
+        (
+            &["serve", "--listen=[fe80::1%2]:4000"],
+            "an address as 0.0.0.0:4000",
+        ),
+    ];
+    expect_refused(&rt, rt.alloc(), &refused);
 }
 
 #[test]
@@ -337,7 +404,8 @@ fn refused_words_of_a_server(rt: HostRuntime) {
 
 #[test]
 fn refused_words(rt: HostRuntime) {
-    let cases: [(&[&str], &str); 9] = [
+    let cases: [(&[&str], &str); 10] = [
+        (&["run", "--strict=1"], "--strict"),
         (&["run", "--nodes", "0"], "0 is not in 1..=16"),
         (&["run", "--nodes", "17"], "17 is not in 1..=16"),
         (&["run", "--workers", "17"], "17 is not in 0..=16"),

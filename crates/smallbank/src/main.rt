@@ -4,12 +4,11 @@
 ghost use Rattle.bank_program.specs.Words.{InRange};
 
 use bank_program::{
-    Device, LogWords, ProgramFault, RunWords, ServeWords, Trouble, Words, ask_program,
-    checkpoint_program, input, log_program, output, read_words, refuse_bytes, serve_program, tell,
+    Device, LogWords, ProgramFault, ServeWords, Trouble, Words, ask_program, checkpoint_program,
+    input, log_program, output, read_words, refuse_bytes, run_program, serve_program, tell,
 };
-use bank_server::{RunFault, run_text};
+use bank_server::RunFault;
 use clap::error::ErrorKind;
-use cown_workers::OpenGate;
 use schedule_player::run_schedule;
 use std::net::Net;
 use std::process::ExitCode;
@@ -73,18 +72,7 @@ fn obey<'d, H: Threads + Wait + Clock + Sync + Net>(
     requires { InRange words }
 {
     match words {
-        Words::Run(RunWords { nodes, workers }) => {
-            let (reader, writer) = (&mut input(rt, trouble), &mut output(rt, trouble));
-            run_text(
-                threads,
-                rt.alloc(),
-                reader,
-                writer,
-                nodes,
-                workers,
-                &OpenGate,
-            )?;
-        }
+        Words::Run(words) => run_program(rt, threads, words, trouble)?,
         Words::Play => run_schedule(
             rt.alloc(),
             &mut input(rt, trouble),

@@ -1,6 +1,7 @@
 -- The steps of serving a bank, and what each prints.
 use Rattle.std.specs.Prelude.{◌≡◌, ℕ, Option, List, [], ◌∷◌, length}
 use Rattle.std.specs.List.{All}
+use Rattle.std.specs.declared.net.ip_addr.IpAddr.{IpAddr}
 use Rattle.sb_rows.specs.Rows.{Rows}
 use Rattle.sb_calls.specs.declared.ask.Key.{Key}
 use Rattle.sb_calls.specs.declared.call.Call.{Call}
@@ -9,9 +10,9 @@ use Rattle.bank_server.specs.Clients.{End}
 use Rattle.bank_program.specs.Sessions.{ListenerClients, ServesFirst}
 use Rattle.bank_program.specs.ServeOutput.{IsPortOf, log_lines, session_line, ServerContinues, PrintsLines, session_lines, end_lines, port_line}
 
--- the port of a listener is printed
-abbrev pub PrintsPort : Option ℕ → Option (List ℕ) → Option (List ℕ) → Type 0
-PrintsPort at old new = (port : ℕ) × IsPortOf at port × PrintsLines (port_line port ∷ []) old new
+-- the port of a listener at this host is printed
+abbrev pub PrintsPort : IpAddr → Option ℕ → Option (List ℕ) → Option (List ℕ) → Type 0
+PrintsPort host at old new = (port : ℕ) × IsPortOf at port × PrintsLines (port_line host port ∷ []) old new
 
 module _ {R W : Type 0} (sends : R → Option (List ℕ)) (gets : W → Option (List ℕ)) (opening : Rows) where
   -- the next client is served, its session is printed, and the server can go on

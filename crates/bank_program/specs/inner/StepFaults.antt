@@ -3,8 +3,8 @@ use Rattle.std.specs.Prelude.{◌≡◌, Bool, true, Err}
 use Rattle.bank_server.specs.declared.fault.RunFault.{RunFault}
 use Rattle.bank_server.specs.declared.fault.RunFault.TheVariants.{CrewGone, Device, OutOfMemory}
 use Rattle.bank_program.specs.declared.serve_fault.ServeFault.{ServeFault}
-use Rattle.bank_program.specs.declared.serve_fault.ServeFault.TheVariants.{Log, Run, Store}
-use Rattle.bank_server.specs.declared.session_fault.SessionFault.TheVariants as session
+use Rattle.bank_program.specs.declared.serve_fault.ServeFault.TheVariants.{Log, Run, Store, StoreInUse}
+use Rattle.bank_server.specs.declared.session.session_fault.SessionFault.TheVariants as session
 use Rattle.bank_program.specs.ServeFaults.{IsBankFault, IsOpeningRunFault}
 use Rattle.bank_server.specs.Clients.{End}
 
@@ -25,10 +25,17 @@ IsEnding end (Run OutOfMemory) = end ≡ Err session.OutOfMemory
 IsEnding end (Log fault) = end ≡ Err (session.Log fault)
 IsEnding end other = ⊥
 
--- memory was refused; or the bank saves, and its store takes nothing
+-- the store's folder is another server's, or can't be locked
+abbrev pub IsLockFault : ServeFault → Type 0
+IsLockFault Store = Unit {0}
+IsLockFault StoreInUse = Unit {0}
+IsLockFault other = ⊥
+
+-- memory was refused; or the bank saves, and its store takes nothing or is another server's
 abbrev pub IsStoreFault : Bool → ServeFault → Type 0
 IsStoreFault saves (Run fault) = fault ≡ OutOfMemory
 IsStoreFault saves Store = saves ≡ true
+IsStoreFault saves StoreInUse = saves ≡ true
 IsStoreFault saves other = ⊥
 
 -- the same for a server
@@ -36,7 +43,8 @@ abbrev pub IsOpeningFault : ServeFault → Type 0
 IsOpeningFault (Run fault) = IsOpeningRunFault fault
 IsOpeningFault other = ⊥
 
--- the same, or the input can't be read; or the bank saves, and its store takes nothing
+-- the same, or the input can't be read; or the bank saves, and its store takes nothing or is another's
 abbrev pub IsOpenFault : Bool → ServeFault → Type 0
 IsOpenFault saves Store = saves ≡ true
+IsOpenFault saves StoreInUse = saves ≡ true
 IsOpenFault saves other = IsBankFault other

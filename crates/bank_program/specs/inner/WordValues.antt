@@ -1,19 +1,21 @@
 -- The values that the words after the program's name give.
 use Rattle.std.specs.Prelude.{◌≡◌, Bool, List, String}
+use Rattle.std.specs.declared.net.ip_addr.IpAddr.{IpAddr}
 use Rattle.bank_program.specs.declared.serving.Plan.{Plan}
 use Rattle.bank_program.specs.declared.words.Words.{Words}
 use Rattle.bank_program.specs.declared.words.ask.AskWords.{AskWords}
 use Rattle.bank_program.specs.declared.words.run.RunWords.{RunWords}
 use Rattle.bank_program.specs.declared.words.serve.ServeWords.{ServeWords}
-use Rattle.bank_program.specs.Words.{InRange, IsAskInRange, IsPlanInRange, IsRunInRange, IsServeInRange, GivesAsk, GivesCounts, GivesServe, GivesPlan, GivesValues, NamesProgram}
+use Rattle.bank_program.specs.Words.{InRange, IsAskInRange, IsPlanInRange, IsRunInRange, IsServeInRange, GivesAsk, GivesRun, GivesServe, GivesPlan, GivesValues, NamesProgram}
 
--- the words give this plan, for a bank that saves or doesn't, and that keeps a log or doesn't
-abbrev pub IsPlanOf : {A : Type 0} → List (String A) → Bool → Bool → Plan → Type 0
-IsPlanOf words saves logs plan = IsPlanInRange logs plan × GivesPlan logs plan words × (plan.saves ≡ saves)
+-- the words give this plan, for a bank at this host that saves or doesn't, and that keeps a log or doesn't
+abbrev pub IsPlanOf : {A : Type 0} → List (String A) → IpAddr → Bool → Bool → Plan → Type 0
+IsPlanOf words host saves logs plan = IsPlanInRange logs plan × GivesPlan logs plan words × (plan.saves ≡ saves)
+    × (plan.host ≡ host)
 
 -- these words give this run
 abbrev pub IsRunOf : {A : Type 0} → List (String A) → RunWords → Type 0
-IsRunOf words run = IsRunInRange run × GivesCounts run.nodes run.workers words
+IsRunOf words run = IsRunInRange run × GivesRun run words
 
 -- these words say how this bank is served
 abbrev pub IsServeOf : {A : Type 0} → List (String A) → ServeWords → Type 0

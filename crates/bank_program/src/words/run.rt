@@ -2,7 +2,7 @@
 ghost use Rattle.std.specs.Prelude.{IfSome};
 ghost use Rattle.bank_program.specs.inner.WordValues.{IsRunOf};
 
-use crate::options::parse_count;
+use crate::options::{has_word, parse_count};
 use cown_bench::WORKERS;
 use sb_sequencer::REPLICAS;
 
@@ -13,6 +13,8 @@ pub struct RunWords {
     pub nodes: usize,
     /// How many threads execute node 0's calls: 0 to 16. With 0 it executes them itself.
     pub workers: usize,
+    /// Whether an input whose last line doesn't end with a line feed is refused.
+    pub strict: bool,
 }
 
 /// How a run goes, by the words after `run`.
@@ -21,8 +23,13 @@ pub(super) fn run_words(options: &[String]) -> Option<RunWords>
 {
     let nodes = parse_count(options, "--nodes", 1)?;
     let workers = parse_count(options, "--workers", 0)?;
+    let strict = has_word(options, "--strict");
     if (1..=REPLICAS).contains(&nodes) && workers <= WORKERS {
-        Some(RunWords { nodes, workers })
+        Some(RunWords {
+            nodes,
+            workers,
+            strict,
+        })
     } else {
         None
     }

@@ -1,12 +1,16 @@
 //! The words after `serve`.
 ghost use Rattle.std.specs.Prelude.{◌≡◌, true, IfSome, map, string_bytes};
-ghost use Rattle.bank_program.specs.Words.{GivesStore, IsPlanInRange, may_be_endless, usual_sessions};
+ghost use Rattle.std.specs.Net.Socket.{socket_ip, socket_port};
+ghost use Rattle.bank_program.specs.Words.{GivesAddress, GivesStore, IsPlanInRange, WritesAddress};
+ghost use Rattle.bank_program.specs.Words.{may_be_endless, usual_sessions};
 ghost use Rattle.bank_program.specs.inner.WordValues.{IsPlanOf, IsServeOf};
 
-use crate::options::{parse_count, parse_number, parse_optional, value};
+use crate::listening::here;
+use crate::options::{has_word, parse_count, parse_number, parse_optional, value};
 use crate::serving::Plan;
 use cown_bench::WORKERS;
 use sb_sequencer::REPLICAS;
+use std::net::{IpAddr, SocketAddr};
 
 /// How a bank is served, and where.
 #[derive(Clone, Copy, Debug, PartialEq, Eq)]
@@ -28,18 +32,46 @@ const ENDLESS: usize = usize::MAX;
 pub(super) fn serve_words<'a>(options: &'a [String]) -> Option<ServeWords<'a>>
     ensures { IfSome result (λ serve. IsServeOf options.entry.now serve) }
 {
-    let Ok(port) = u16::try_from(parse_number(options, "--port")?) else {
-        return None;
-    };
+    let address = address_of(options)?;
     let (saves, store) = store_of(options);
     let log = value(options, "--log");
-    let plan = plan_of(options, saves, log.is_some())?;
+    let plan = plan_of(options, address.ip(), saves, log.is_some())?;
     Some(ServeWords {
-        port,
+        port: address.port(),
         plan,
         store,
         log,
     })
+}
+
+// Where the server listens: one of the two options says it.
+fn address_of(options: &[String]) -> Option<SocketAddr>
+    ensures { IfSome result
+        (λ address. GivesAddress (socket_ip address) (socket_port address) (map string_bytes options.now)) }
+{
+    match value(options, "--listen") {
+        Some(text) => {
+            if value(options, "--port").is_some() {
+                return None;
+            }
+            parse_address(text)
+        }
+        None => {
+            let port = parse_number(options, "--port")?;
+            Some(here(u16::try_from(port).ok()?))
+        }
+    }
+}
+
+// The address that a text writes, without a scope: that is no part of a plan.
+fn parse_address(text: &str) -> Option<SocketAddr>
+    ensures { IfSome result (λ address. WritesAddress text.now (socket_ip address) (socket_port address)) }
+{
+    let address = text.parse::<SocketAddr>().ok()?;
+    match address {
+        SocketAddr::V6(address) if address.scope_id() != 0 => None,
+        _ => Some(address),
+    }
 }
 
 // Whether the bank saves, and its store's folder.
@@ -52,19 +84,22 @@ fn store_of<'a>(options: &'a [String]) -> (bool, &'a str)
     }
 }
 
-// The plan that these words give, for a bank that saves or doesn't, and that keeps a log or doesn't.
-fn plan_of(options: &[String], saves: bool, logs: bool) -> Option<Plan>
-    ensures { IfSome result (λ plan. IsPlanOf options.now saves logs plan) }
+// The plan that these words give, for a bank at this host that saves or doesn't, and that keeps a log or
+// doesn't.
+fn plan_of(options: &[String], host: IpAddr, saves: bool, logs: bool) -> Option<Plan>
+    ensures { IfSome result (λ plan. IsPlanOf options.now host saves logs plan) }
 {
     let clients = parse_optional(options, "--clients")?;
     let usual = usual_sessions(may_be_endless(logs, clients));
     let plan = Plan {
+        host,
         sessions: parse_count(options, "--sessions", usual)?,
         clients,
         nodes: parse_count(options, "--nodes", 1)?,
         workers: parse_count(options, "--workers", 0)?,
         saves,
         patience: parse_optional(options, "--patience")?,
+        is_quiet: has_word(options, "--quiet"),
     };
     if is_in_range(&plan, logs) {
         Some(plan)

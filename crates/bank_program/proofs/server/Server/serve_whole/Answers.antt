@@ -13,7 +13,7 @@ returns-clause-served g c = on_ok_weaker c.print_rows.result (λ printed.
       at_first = first;
       same_log = c.finish_session.ensures.log;
       bank = serves_bank g.D.Reader.Read.remaining g.D.Writer.Write.contents g.K.Keeper.opening c.args.self.now.primary c.finish_session.new.primary
-          c.serve_all.new.self.primary c.args.self.now.plan.sessions
+          c.serve_all.new.self.primary c.args.self.now.plan.sessions c.args.self.now.plan.host
           (g.D.ClientListener.listens_at c.args.self.now.listener) (g.D.ClientListener.clients c.args.self.now.listener)
           (g.D.ClientListener.clients c.serve_all.new.self.listener) (g.W.Write.contents c.args.self.now.writer)
           (g.W.Write.contents c.print_log.new.writer) (g.W.Write.contents c.print_port.new.writer)

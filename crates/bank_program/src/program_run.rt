@@ -1,0 +1,91 @@
+//! The program that runs calls.
+ghost use Rattle.std.specs.Prelude.{◌≡◌, false, true, IfSome, IsErrOf, OnOk};
+ghost use Rattle.bank_server.specs.Faults.{Writes};
+ghost use Rattle.bank_server.specs.Output.{output_of};
+ghost use Rattle.bank_program.specs.StrictRuns.{is_whole};
+ghost use Rattle.bank_program.specs.Words.{IsRunInRange};
+ghost use Rattle.bank_program.specs.declared.fault.ProgramFault.TheVariants.{UnendedLine};
+
+use crate::answer_watch::RunWatch;
+use crate::fault::ProgramFault;
+use crate::standard_streams::{input, output};
+use crate::trouble::Trouble;
+use crate::words::RunWords;
+use bank_server::{RunFault, run_text};
+use cown_workers::OpenGate;
+use sb_text::read_all;
+use std::alloc::Global;
+use std::io::{Read, Write};
+use std::sync::Wait;
+use std::thread::Threads;
+use std::time::Clock;
+
+/// Runs the calls of standard input, and writes to standard output. Then it tells on standard error how many lines
+/// were answered otherwise than by a reply, if some were. An error of a stream is noted.
+pub fn run_program<H: Threads + Wait + Clock + Sync>(
+    rt: &HostRuntime,
+    threads: &H,
+    words: RunWords,
+    trouble: &Trouble<'_>,
+) -> Result<(), ProgramFault>
+    requires { IsRunInRange words }
+{
+    let (alloc, nodes, workers) = (rt.alloc(), words.nodes, words.workers);
+    let mut reader = input(rt, trouble);
+    let mut writer = RunWatch::new(output(rt, trouble));
+    if words.strict {
+        run_strictly(threads, alloc, &mut reader, &mut writer, words)?;
+    } else {
+        let gate = &OpenGate;
+        run_text(
+            threads,
+            alloc,
+            &mut reader,
+            &mut writer,
+            nodes,
+            workers,
+            gate,
+        )?;
+    }
+    writer.counts().tell(rt);
+    Ok(())
+}
+
+/// Runs an input as [`run_text`] does, but none whose last line doesn't end with a line feed: a part of it
+/// may be missing.
+///
+/// Fails as [`run_text`] does, and with [`ProgramFault::UnendedLine`] at such an input, whatever else is wrong
+/// with it.
+pub fn run_strictly<H: Threads + Wait + Clock + Sync, R: Read, W: Write>(
+    rt: &H,
+    alloc: Global,
+    reader: &mut R,
+    writer: &mut W,
+    words: RunWords,
+) -> Result<(), ProgramFault>
+    requires { IsRunInRange words }
+    ensures done { OnOk result (IfSome (R.remaining reader.old) (λ input.
+        Writes (output_of input) (W.contents writer.old) (W.contents writer.new))) }
+    ensures whole { OnOk result (IfSome (R.remaining reader.old) (λ input. is_whole input ≡ true)) }
+    ensures unended { IsErrOf result UnendedLine → IfSome (R.remaining reader.old) (λ input.
+        is_whole input ≡ false) }
+    ensures unwritten { IsErrOf result UnendedLine → W.contents writer.new ≡ W.contents writer.old }
+{
+    let input = match read_all(alloc, reader) {
+        Ok(input) => input,
+        Err(fault) => return Err(ProgramFault::Run(RunFault::from(fault))),
+    };
+    if !is_whole(&input) {
+        return Err(ProgramFault::UnendedLine);
+    }
+    let (mut rest, nodes, workers) = (input.as_slice(), words.nodes, words.workers);
+    run_text(rt, alloc, &mut rest, writer, nodes, workers, &OpenGate)?;
+    Ok(())
+}
+
+// Whether each line of a text ends with a line feed.
+fn is_whole(text: &[u8]) -> bool
+    ensures { result ≡ is_whole text.now }
+{
+    text.is_empty() || text.ends_with(b"\n")
+}

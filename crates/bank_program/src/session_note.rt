@@ -1,0 +1,59 @@
+//! What is told of a session that is over.
+use bank_clients::Traffic;
+use jiff::Timestamp;
+use std::fmt;
+use std::time::Clock;
+
+// How many bytes an outcome has.
+const OUTCOME: u64 = 21;
+
+/// What is told of a session that is over: when, whose it was, how many outcomes were told, how many bytes came
+/// and went, and how many seconds it lasted.
+#[derive(Clone, Copy)]
+pub struct SessionNote {
+    /// When it was over, in seconds since 1970, if the clock says it.
+    pub second: Option<i64>,
+    /// What went over its connection.
+    pub traffic: Traffic,
+}
+
+impl SessionNote {
+    /// Of a session that is over now.
+    pub(crate) fn new(clock: &impl Clock, traffic: Traffic) -> SessionNote {
+        let second = match Timestamp::now(clock) {
+            Ok(now) => Some(now.as_second()),
+            Err(_) => None,
+        };
+        SessionNote { second, traffic }
+    }
+
+    /// Tells it on standard error. If that fails, the bank is served all the same.
+    pub(crate) fn tell(&self, rt: &HostRuntime) {
+        let _ = eprintln!(rt; "{self}");
+    }
+}
+
+impl fmt::Display for SessionNote {
+    fn fmt<W: fmt::Write>(&self, f: &mut fmt::Formatter<W>) -> fmt::Result {
+        let Traffic {
+            peer,
+            read,
+            written,
+            lasted,
+        } = self.traffic;
+        f.write_str("smallbank: ")?;
+        if let Some(second) = self.second {
+            if let Ok(time) = Timestamp::from_second(second) {
+                write!(f, "{time} ")?;
+            }
+        }
+        if let Some(peer) = peer {
+            write!(f, "{peer} ")?;
+        }
+        let (told, seconds, millis) = (written / OUTCOME, lasted.as_secs(), lasted.subsec_millis());
+        write!(
+            f,
+            "outcomes {told} read {read} written {written} seconds {seconds}.{millis:03}"
+        )
+    }
+}
