@@ -162,23 +162,13 @@ pub(crate) fn frame_size(bytes: &[u8]) -> Result<usize, FrameFault>
     Ok(end)
 }
 
-// The frame, with the faults tested in order.
-#[inline]
-#[tactic(auto, unfolding(crate::specs::Decoding::decode_result))]
-fn first_frame(bytes: &[u8]) -> Result<(Frame, usize), FrameFault>
-    ensures { result ≡ decode_result bytes.now }
-{
-    let size = frame_size(bytes)?;
-    let frame = frame_of(&bytes[LENGTH_BYTES..size])?;
-    Ok((frame, size))
-}
-
 /// The frame at the front of the bytes, and the number of bytes it takes. Bytes after it aren't
 /// examined. It allocates nothing.
 ///
 /// Fails with the first fault from the left. With [`FrameFault::Short`] the bytes may be the
 /// beginning of a frame. With any other fault no frame begins with them, whatever bytes follow.
 #[inline]
+#[tactic(auto, unfolding(crate::specs::Decoding::decode_result))]
 pub fn decode(bytes: &[u8]) -> Result<(Frame, usize), FrameFault>
     // Bytes that are decoded as a frame spell it.
     ensures spelled { IfOk result (λ found.
@@ -192,5 +182,7 @@ pub fn decode(bytes: &[u8]) -> Result<(Frame, usize), FrameFault>
     ensures stable { (more : List ℕ) → result ≢ Err FrameFault.Short
         → decode_result (bytes.now ++ more) ≡ result }
 {
-    first_frame(bytes)
+    let size = frame_size(bytes)?;
+    let frame = frame_of(&bytes[LENGTH_BYTES..size])?;
+    Ok((frame, size))
 }

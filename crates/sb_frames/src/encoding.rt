@@ -10,7 +10,7 @@ ghost use Rattle.sb_frames.specs.declared.frame.Frame.TheVariants.{Answer, Entry
 use crate::decoding::{ACK, ANSWER, ASK, ENTRY, FLUSH, HAVE, OUTCOME};
 use crate::frame::{Frame, LENGTH_BYTES, MAX_BODY, MAX_FRAME};
 use crate::writing::{
-    Bytes, put, put_call, put_outcome, put_replica_and_length, put_reply, put_tag_and_request,
+    Bytes, put_bytes, put_call, put_outcome, put_replica_and_length, put_reply, put_tag_and_request,
 };
 use arrayvec::ArrayVec;
 use byteorder::{BigEndian, ByteOrder};
@@ -22,7 +22,7 @@ pub fn encode(frame: &Frame) -> ArrayVec<u8, MAX_FRAME>
     ensures { Spells frame.now result.items }
 {
     let mut bytes = ArrayVec::new();
-    put(&mut bytes, &[0; LENGTH_BYTES]);
+    put_bytes(&mut bytes, &[0; LENGTH_BYTES]);
     put_body(&mut bytes, frame);
     state_length(&mut bytes);
     bytes
@@ -35,7 +35,7 @@ pub fn encode_entry(number: u64, call: &Call) -> ArrayVec<u8, MAX_FRAME>
     ensures { Spells (Entry number call.now) result.items }
 {
     let mut bytes = ArrayVec::new();
-    put(&mut bytes, &[0; LENGTH_BYTES]);
+    put_bytes(&mut bytes, &[0; LENGTH_BYTES]);
     put_entry(&mut bytes, number, call);
     state_length(&mut bytes);
     bytes
@@ -81,7 +81,7 @@ fn put_body(bytes: &mut Bytes, frame: &Frame)
             put_tag_and_request(bytes, OUTCOME, *client, *request);
             put_outcome(bytes, *outcome);
         }
-        Frame::Flush => put(bytes, &[FLUSH]),
+        Frame::Flush => put_bytes(bytes, &[FLUSH]),
         Frame::Have { replica, length } => {
             put_replica_and_length(bytes, HAVE, *replica, *length);
         }
@@ -96,8 +96,8 @@ fn put_entry(bytes: &mut Bytes, number: u64, call: &Call)
     ensures spelled { bytes.new.items ≡ bytes.old.items ++ grammar.body (Entry number call.now) }
     ensures valid { IsCall call.now }
 {
-    put(bytes, &[ENTRY]);
-    put(bytes, &number.to_be_bytes());
+    put_bytes(bytes, &[ENTRY]);
+    put_bytes(bytes, &number.to_be_bytes());
     put_call(bytes, call);
 }
 
@@ -108,7 +108,7 @@ fn put_answer(bytes: &mut Bytes, number: u64, reply: WireReply)
     ensures spelled { bytes.new.items ≡ bytes.old.items ++ grammar.body (Answer number reply) }
     ensures valid { IsReply reply }
 {
-    put(bytes, &[ANSWER]);
-    put(bytes, &number.to_be_bytes());
+    put_bytes(bytes, &[ANSWER]);
+    put_bytes(bytes, &number.to_be_bytes());
     put_reply(bytes, reply);
 }

@@ -45,7 +45,7 @@ pub(crate) const TAG_AND_REQUEST: usize = 1 + 4 + 4;
 
 /// Appends bytes.
 #[inline]
-pub(crate) fn put(bytes: &mut Bytes, more: &[u8])
+pub(crate) fn put_bytes(bytes: &mut Bytes, more: &[u8])
     requires { length bytes.old.items + length more.now ≤ MAX_FRAME }
     ensures { bytes.new.items ≡ bytes.old.items ++ more.now }
 {
@@ -58,8 +58,8 @@ pub(crate) fn put_replica_and_length(bytes: &mut Bytes, tag: u8, replica: u8, si
     requires { length bytes.old.items + REPLICA_AND_LENGTH ≤ MAX_FRAME }
     ensures { bytes.new.items ≡ bytes.old.items ++ (tag ∷ replica ∷ integer_field w64 size) }
 {
-    put(bytes, &[tag, replica]);
-    put(bytes, &size.to_be_bytes());
+    put_bytes(bytes, &[tag, replica]);
+    put_bytes(bytes, &size.to_be_bytes());
 }
 
 /// A tag, a client's number and a request's number, in `TAG_AND_REQUEST` bytes.
@@ -70,9 +70,9 @@ pub(crate) fn put_tag_and_request(bytes: &mut Bytes, tag: u8, client: u32, reque
     ensures { bytes.new.items
         ≡ bytes.old.items ++ (tag ∷ (integer_field w32 client ++ integer_field w32 request)) }
 {
-    put(bytes, &[tag]);
-    put(bytes, &client.to_be_bytes());
-    put(bytes, &request.to_be_bytes());
+    put_bytes(bytes, &[tag]);
+    put_bytes(bytes, &client.to_be_bytes());
+    put_bytes(bytes, &request.to_be_bytes());
 }
 
 // Appends at most `NAME_FIELD` bytes.
@@ -84,8 +84,8 @@ fn put_name(bytes: &mut Bytes, name: &Name)
     ensures valid { IsName name.now }
 {
     let text = name.text();
-    put(bytes, &[text.len() as u8]);
-    put(bytes, text);
+    put_bytes(bytes, &[text.len() as u8]);
+    put_bytes(bytes, text);
 }
 
 #[inline]
@@ -94,7 +94,7 @@ fn put_cents(bytes: &mut Bytes, cents: i64)
     requires { length bytes.old.items + AMOUNT_FIELD ≤ MAX_FRAME }
     ensures { bytes.new.items ≡ bytes.old.items ++ amount_field cents }
 {
-    put(bytes, &cents.to_be_bytes());
+    put_bytes(bytes, &cents.to_be_bytes());
 }
 
 // A call whose kind takes a name and an amount.
@@ -105,7 +105,7 @@ fn put_name_and_amount(bytes: &mut Bytes, kind: u8, name: &Name, amount: Cents)
         ≡ bytes.old.items ++ (kind ∷ (name_field name.now ++ amount_field amount)) }
     ensures valid { IsName name.now × IsWithinLimit amount }
 {
-    put(bytes, &[kind]);
+    put_bytes(bytes, &[kind]);
     put_name(bytes, name);
     put_cents(bytes, amount.value());
 }
@@ -119,7 +119,7 @@ fn put_two_names(bytes: &mut Bytes, kind: u8, from: &Name, to: &Name)
     ensures room { length bytes.new.items ≤ length bytes.old.items + TWO_NAMES }
     ensures valid { IsName from.now × IsName to.now }
 {
-    put(bytes, &[kind]);
+    put_bytes(bytes, &[kind]);
     put_name(bytes, from);
     put_name(bytes, to);
 }
@@ -133,7 +133,7 @@ pub(crate) fn put_call(bytes: &mut Bytes, call: &Call)
 {
     match call {
         Call::Balance(name) => {
-            put(bytes, &[BALANCE]);
+            put_bytes(bytes, &[BALANCE]);
             put_name(bytes, name);
         }
         Call::DepositChecking(name, amount) => {
@@ -160,7 +160,7 @@ pub(crate) fn put_reply(bytes: &mut Bytes, reply: WireReply)
     ensures valid { IsReply reply }
 {
     let (code, total) = reply.code_and_total();
-    put(bytes, &[code]);
+    put_bytes(bytes, &[code]);
     put_cents(bytes, total);
 }
 
@@ -169,7 +169,7 @@ fn put_no_reply(bytes: &mut Bytes, status: u8)
     requires { length bytes.old.items + OUTCOME_FIELD ≤ MAX_FRAME }
     ensures { bytes.new.items ≡ bytes.old.items ++ (status ∷ no_reply_field) }
 {
-    put(bytes, &[status, 0]);
+    put_bytes(bytes, &[status, 0]);
     put_cents(bytes, 0);
 }
 
@@ -181,7 +181,7 @@ pub(crate) fn put_outcome(bytes: &mut Bytes, outcome: AskOutcome)
 {
     match outcome {
         AskOutcome::Replied(reply) => {
-            put(bytes, &[REPLIED]);
+            put_bytes(bytes, &[REPLIED]);
             put_reply(bytes, reply);
         }
         AskOutcome::Mismatch => put_no_reply(bytes, MISMATCH),

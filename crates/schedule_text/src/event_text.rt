@@ -3,7 +3,7 @@ ghost use Rattle.std.specs.Prelude.{◌≡◌, ◌+◌, ◌<◌, ◌^◌, Ok, []
 ghost use Rattle.sb_rows.specs.Opening.{at_line};
 ghost use Rattle.sb_rows.specs.Text.{lines};
 ghost use Rattle.schedule_text.specs.EventText as spec;
-ghost use Rattle.schedule_text.specs.EventText.{event_of, event_of_words, mark_event};
+ghost use Rattle.schedule_text.specs.EventText.{event_of, mark_event};
 ghost use Rattle.schedule_text.specs.inner.LineFaults.{BlamesLine};
 ghost use Rattle.schedule_text.specs.ScheduleText.{events_from, in_events};
 
@@ -23,16 +23,11 @@ const USUAL_LINE: usize = 16;
 /// The event that a line says.
 ///
 /// Fails with the first fault of the line, in the order of [`EventFault`]'s variants.
+#[tactic(auto, unfolding(crate::specs::EventText::event_of))]
 pub fn read_event(line: &[u8]) -> Result<Event, EventFault>
     ensures { result ≡ event_of line.now }
 {
-    event_of(Words::of(line))
-}
-
-// The event that the words of a line say.
-fn event_of(mut words: Words) -> Result<Event, EventFault>
-    ensures { result ≡ event_of_words words.entry }
-{
+    let mut words = Words::of(line);
     let Some(verb) = words.next() else {
         return Err(EventFault::UnknownEvent);
     };

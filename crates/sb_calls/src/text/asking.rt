@@ -7,8 +7,9 @@ ghost use Rattle.sb_calls.specs.Ask.{IsAskLine, ask_line, ask_line_of, ask_line_
 
 use super::fault::CallFault;
 use super::number::read_number;
-use super::reading::{call_with, push_call};
+use super::reading::call_with;
 use crate::ask::{AskLine, Key};
+use crate::call::Call;
 use sb_rows::{Words, word_is};
 
 /// What an asking line asks.
@@ -17,6 +18,7 @@ use sb_rows::{Words, word_is};
 /// are fewer than three words, with `BadNumber` if one of the two numbers isn't valid (the client's
 /// is at least 1, both are below 2^32, in decimal without leading zeros), and then with the faults
 /// of the call that follows.
+#[inline]
 pub fn read_ask(line: &[u8]) -> Result<AskLine, CallFault>
     // A line that is read spells what it asks.
     ensures spelled { IfOk result (λ asked. IsAskLine asked × (line.now ≡ ask_line asked)) }
@@ -26,13 +28,7 @@ pub fn read_ask(line: &[u8]) -> Result<AskLine, CallFault>
     // The result, exactly.
     ensures exact { result ≡ ask_line_of line.now }
 {
-    ask_line_of_words(Words::of(line))
-}
-
-// What the words of a line ask.
-fn ask_line_of_words(mut words: Words) -> Result<AskLine, CallFault>
-    ensures { result ≡ ask_line_of_words words.entry }
-{
+    let mut words = Words::of(line);
     let (key, verb) = key_and_verb(&mut words)?;
     let call = call_with(verb, words)?;
     Ok(AskLine { key, call })
@@ -41,7 +37,6 @@ fn ask_line_of_words(mut words: Words) -> Result<AskLine, CallFault>
 /// Appends what an asking line asks to a list, in room that was reserved.
 ///
 /// Fails as [`read_ask`] does; nothing changes then.
-#[tactic(auto, unfolding(crate::specs::Ask::ask_line_of))]
 pub fn push_ask(line: &[u8], asks: &mut Vec<AskLine>) -> Result<(), CallFault>
     requires room { vec_len asks.old < vec_capacity asks.old }
     ensures pushed { MatchResult (ask_line_of line.now)
@@ -49,9 +44,10 @@ pub fn push_ask(line: &[u8], asks: &mut Vec<AskLine>) -> Result<(), CallFault>
         (λ fault. (result ≡ Err fault) × (asks.new ≡ asks.old)) }
     ensures capacity { vec_capacity asks.new ≡ vec_capacity asks.old }
 {
-    let mut words = Words::of(line);
-    let (key, verb) = key_and_verb(&mut words)?;
-    push_call(verb, words, key, asks)
+    // The checker goes through a call's parts, and needs the type stated.
+    let _parts: Option<Call> = None;
+    asks.push_reserved(read_ask(line)?);
+    Ok(())
 }
 
 // The key, if the first word is `ask`, and the verb of the call.

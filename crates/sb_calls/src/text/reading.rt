@@ -1,14 +1,12 @@
 //! The text of a call: `balance N`, `deposit N V`, `savings N V`, `check N V`, `amalgamate N1 N2`
 //! or `pay N1 N2 V`.
-ghost use Rattle.std.specs.Prelude.{◌≡◌, ◌<◌, ℕ, ℤ, List, [], ◌∷◌, ◌++◌, Ok, Err, IfOk, IsOk, MatchResult, vec_len, vec_capacity};
+ghost use Rattle.std.specs.Prelude.{◌≡◌, ℕ, ℤ, List, ◌∷◌, Ok, Err, IfOk};
 ghost use Rattle.std.specs.Result.{result_map_both};
-ghost use Rattle.sb_calls.specs.Ask.{under_key};
 ghost use Rattle.sb_calls.specs.declared.call.Call.{Call as AnyCall};
 ghost use Rattle.sb_calls.specs.Call.{IsCall, call_line, call_of, call_of_words, of_name, of_name_and_amount, of_two_names, of_two_names_and_amount};
 
 use super::fault::CallFault;
 use super::verb::Verb;
-use crate::ask::{AskLine, Key};
 use crate::call::Call;
 use sb_amount::Cents;
 use sb_rows::{Name, Words};
@@ -51,7 +49,7 @@ pub(crate) fn call_with(verb: &[u8], words: Words) -> Result<Call, CallFault>
         Verb::Balance => one_name(words).map(Call::Balance),
         Verb::OfAmount(verb) => {
             let (name, amount) = name_and_amount(words)?;
-            Ok(verb.call(name, amount))
+            Ok(verb.into_call(name, amount))
         }
         Verb::Amalgamate => {
             let (from, to) = two_names(words)?;
@@ -62,55 +60,6 @@ pub(crate) fn call_with(verb: &[u8], words: Words) -> Result<Call, CallFault>
             Ok(Call::SendPayment(from, to, amount))
         }
     }
-}
-
-// Appends the call with a verb and the words after it, under a key, in room that was reserved. Each
-// kind of call is written where it stays, and not passed through memory.
-#[inline(always)]
-pub(crate) fn push_call(
-    verb: &[u8],
-    words: Words,
-    key: Option<Key>,
-    asks: &mut Vec<AskLine>,
-) -> Result<(), CallFault>
-    requires room { vec_len asks.old < vec_capacity asks.old }
-    ensures pushed { MatchResult (under_key key (call_of_words (verb.now ∷ words.entry)))
-        (λ asked. IsOk result × (asks.new.items ≡ asks.old.items ++ asked ∷ []))
-        (λ fault. (result ≡ Err fault) × (asks.new ≡ asks.old)) }
-    ensures capacity { vec_capacity asks.new ≡ vec_capacity asks.old }
-{
-    let Some(verb) = Verb::of(verb) else {
-        return Err(CallFault::UnknownVerb);
-    };
-    match verb {
-        Verb::Balance => {
-            let name = one_name(words)?;
-            push(asks, key, Call::Balance(name))
-        }
-        Verb::OfAmount(verb) => {
-            let (name, amount) = name_and_amount(words)?;
-            push(asks, key, verb.call(name, amount))
-        }
-        Verb::Amalgamate => {
-            let (from, to) = two_names(words)?;
-            push(asks, key, Call::Amalgamate(from, to))
-        }
-        Verb::Pay => {
-            let (from, to, amount) = two_names_and_amount(words)?;
-            push(asks, key, Call::SendPayment(from, to, amount))
-        }
-    }
-    Ok(())
-}
-
-// Appends a call under a key, in room that was reserved.
-#[inline(always)]
-fn push(asks: &mut Vec<AskLine>, key: Option<Key>, call: Call)
-    requires { vec_len asks.old < vec_capacity asks.old }
-    ensures items { asks.new.items ≡ asks.old.items ++ (record { key = key; call = call }) ∷ [] }
-    ensures capacity { vec_capacity asks.new ≡ vec_capacity asks.old }
-{
-    asks.push_reserved(AskLine { key, call });
 }
 
 // The one remaining name. It serves every call that takes a name.

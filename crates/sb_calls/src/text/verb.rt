@@ -54,7 +54,7 @@ impl Verb {
 impl AmountVerb {
     /// The call with this verb, name and amount.
     #[inline(always)]
-    pub(crate) fn call(self, name: Name, amount: Cents) -> Call
+    pub(crate) fn into_call(self, name: Name, amount: Cents) -> Call
         ensures { result ≡ amount_call self name amount }
     {
         match self {
