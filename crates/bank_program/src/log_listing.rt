@@ -31,7 +31,7 @@ use sb_checkpoint::MemoryStore;
 use sb_log::LogFile;
 use sb_rows::Name;
 use sb_sequencer::Sequencer;
-use sb_text::{list_customers, write_whole};
+use sb_text::{list_customers, push_field, write_whole};
 use sha2::Digest;
 use std::alloc::{AllocError, Global};
 use std::io::Write;
@@ -100,31 +100,22 @@ fn push_asks(log: &Sequencer, out: &mut Vec<u8>) -> Result<(), AllocError>
 {
     for before in 0..log.length() {
         let (key, call) = log.ask_of(before + 1).unwrap();
-        push_ask(&key, &call, out)?;
+        push_ask_line(&key, &call, out)?;
     }
     Ok(())
 }
 
 // Appends the line of an ask.
-fn push_ask(key: &Key, call: &Call, out: &mut Vec<u8>) -> Result<(), AllocError>
+fn push_ask_line(key: &Key, call: &Call, out: &mut Vec<u8>) -> Result<(), AllocError>
     ensures { OnOk result (out.new.items
         ≡ out.old.items ++ ask_line (record { key = Some key.now; call = call.now }) ++ 10 ∷ []) }
 {
     let (mut client, mut request) = (Buffer::new(), Buffer::new());
     out.extend_from_slice(b"ask ")?;
-    push_field(client.format(key.client).as_bytes(), out)?;
-    push_field(request.format(key.request).as_bytes(), out)?;
+    push_field(client.format(key.client).as_bytes(), b' ', out)?;
+    push_field(request.format(key.request).as_bytes(), b' ', out)?;
     push_call(call, out)?;
     out.push(b'\n')?;
-    Ok(())
-}
-
-// Appends a field and a space.
-fn push_field(field: &[u8], out: &mut Vec<u8>) -> Result<(), AllocError>
-    ensures { OnOk result (out.new.items ≡ out.old.items ++ field.now ++ 32 ∷ []) }
-{
-    out.extend_from_slice(field)?;
-    out.push(b' ')?;
     Ok(())
 }
 
@@ -142,13 +133,13 @@ fn push_call(call: &Call, out: &mut Vec<u8>) -> Result<(), AllocError>
         Call::WriteCheck(name, amount) => push_amount(b"check ", name, *amount, out),
         Call::Amalgamate(from, to) => {
             out.extend_from_slice(b"amalgamate ")?;
-            push_field(from.text(), out)?;
+            push_field(from.text(), b' ', out)?;
             out.extend_from_slice(to.text())
         }
         Call::SendPayment(from, to, amount) => {
             out.extend_from_slice(b"pay ")?;
-            push_field(from.text(), out)?;
-            push_field(to.text(), out)?;
+            push_field(from.text(), b' ', out)?;
+            push_field(to.text(), b' ', out)?;
             out.extend_from_slice(print(*amount).as_str().as_bytes())
         }
     }
@@ -159,7 +150,7 @@ fn push_amount(verb: &[u8], name: &Name, amount: Cents, out: &mut Vec<u8>) -> Re
     ensures { OnOk result (out.new.items ≡ out.old.items ++ verb.now ++ name.now ++ 32 ∷ money amount) }
 {
     out.extend_from_slice(verb)?;
-    push_field(name.text(), out)?;
+    push_field(name.text(), b' ', out)?;
     out.extend_from_slice(print(amount).as_str().as_bytes())
 }
 

@@ -1,13 +1,13 @@
 //! The lines of a checkpoint.
 ghost use Rattle.std.specs.Prelude.{◌≡◌, ◌++◌, [], ◌∷◌, OnOk, codes, decimal, length};
-ghost use Rattle.sb_amount.specs.Money.{money};
 ghost use Rattle.sb_rows.specs.Opening.{customer_line};
 ghost use Rattle.checkpoint_text.specs.Listing.{opening_total_lines, place_lines};
 ghost use Rattle.checkpoint_text.specs.inner.AddedLines.{AddsLines};
 
 use itoa::Buffer;
-use sb_amount::{Cents, print, print_total};
+use sb_amount::{Cents, print};
 use sb_rows::Columns;
+use sb_text::{push_field, push_total};
 use std::alloc::AllocError;
 
 /// Appends a line of a word and a number. The word ends with its space.
@@ -20,14 +20,6 @@ pub(crate) fn push_count(word: &[u8], count: usize, out: &mut Vec<u8>) -> Result
     let mut buffer = Buffer::new();
     out.extend_from_slice(word)?;
     push_field(buffer.format(count).as_bytes(), b'\n', out)
-}
-
-/// Appends a line of a word and a total in cents.
-pub(crate) fn push_total(word: &[u8], total: i64, out: &mut Vec<u8>) -> Result<(), AllocError>
-    ensures { OnOk result (AddsLines out.old.items ((word.now ++ money total) ∷ []) out.new.items) }
-{
-    out.extend_from_slice(word)?;
-    push_field(print_total(total).as_str().as_bytes(), b'\n', out)
 }
 
 /// Appends the line of the opening total, if there is one.
@@ -69,13 +61,4 @@ fn push_place(
     push_field(buffer.format(place).as_bytes(), b' ', out)?;
     push_field(print(savings).as_str().as_bytes(), b' ', out)?;
     push_field(print(checking).as_str().as_bytes(), b'\n', out)
-}
-
-// Appends a field, and the byte that ends it.
-fn push_field(field: &[u8], end: u8, out: &mut Vec<u8>) -> Result<(), AllocError>
-    ensures { OnOk result (out.new.items ≡ out.old.items ++ field.now ++ end ∷ []) }
-{
-    out.extend_from_slice(field)?;
-    out.push(end)?;
-    Ok(())
 }

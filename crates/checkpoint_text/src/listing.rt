@@ -14,11 +14,11 @@ ghost use Rattle.checkpoint_text.specs.inner.StatedCheckpoint.{IsStatedCheckpoin
 
 use crate::fault::CheckpointListFault;
 use crate::fields::StatedBank;
-use crate::lines::{push_count, push_opening, push_places, push_total};
+use crate::lines::{push_count, push_opening, push_places};
 use lane_audit::bank_total;
 use sb_checkpoint::{Checkpoint, CheckpointFault, read_checkpoint};
 use sb_rows::{Columns, Directory, Opening};
-use sb_text::{list_customers, write_whole};
+use sb_text::{list_customers, push_total, write_whole};
 use std::alloc::{AllocError, Global};
 use std::io::Write;
 

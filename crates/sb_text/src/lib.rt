@@ -4,6 +4,7 @@
 
 mod input;
 mod laws;
+mod lines;
 mod listing;
 mod output;
 #[cfg(test)]
@@ -11,5 +12,6 @@ mod tests;
 
 pub use input::{READS, ReadFault, read_all, read_with_room};
 pub use laws::limits;
+pub use lines::{push_field, push_total};
 pub use listing::{list_customers, list_rows};
 pub use output::write_whole;

@@ -1,14 +1,14 @@
 //! The rows in opening order and their total.
-ghost use Rattle.std.specs.Prelude.{◌≡◌, ℕ, List, [], ◌∷◌, ◌++◌, map, codes, OnOk};
-ghost use Rattle.sb_amount.specs.Money.{money};
+ghost use Rattle.std.specs.Prelude.{◌≡◌, ℕ, List, [], ◌∷◌, ◌++◌, map, OnOk};
 ghost use Rattle.sb_rows.specs.Customer.{customers_of};
 ghost use Rattle.sb_rows.specs.Opening.{customer_line};
 ghost use Rattle.sb_rows.specs.Rows.{SameCustomers, rows_of};
 ghost use Rattle.sb_rows.specs.Text.{unlines};
 ghost use Rattle.sb_text.specs.Listing.{row_lines};
 
+use crate::lines::{push_field, push_total};
 use lane_audit::bank_total;
-use sb_amount::{Cents, print, print_total};
+use sb_amount::{Cents, print};
 use sb_rows::{Columns, Directory, Name};
 use std::alloc::AllocError;
 
@@ -26,7 +26,7 @@ pub fn list_rows(
         ≡ out.old.items ++ unlines (row_lines directory.now (rows_of directory.now columns.now))) }
 {
     list_customers(directory, columns, out)?;
-    push_total(out, bank_total(columns))
+    push_total(b"total ", bank_total(columns), out)
 }
 
 /// Appends to `out` a line `NAME SAVINGS CHECKING` for each customer, in opening order. With a line
@@ -64,25 +64,7 @@ fn push_customer(
     ensures { let line = customer_line (record { name = name.now; savings = savings; checking = checking }) in
         OnOk result (out.new.items ≡ out.old.items ++ line ++ 10 ∷ []) }
 {
-    push_field(out, name.text(), b' ')?;
-    push_field(out, print(savings).as_str().as_bytes(), b' ')?;
-    push_field(out, print(checking).as_str().as_bytes(), b'\n')
-}
-
-// Writes the line of the total.
-fn push_total(out: &mut Vec<u8>, total: i64) -> Result<(), AllocError>
-    ensures { OnOk result (out.new.items ≡ out.old.items ++ (codes "total " ++ money total) ++ 10 ∷ []) }
-{
-    out.extend_from_slice(b"total ")?;
-    push_field(out, print_total(total).as_str().as_bytes(), b'\n')
-}
-
-// Writes a field, and the byte that ends it.
-#[inline]
-fn push_field(out: &mut Vec<u8>, field: &[u8], end: u8) -> Result<(), AllocError>
-    ensures { OnOk result (out.new.items ≡ out.old.items ++ field.now ++ end ∷ []) }
-{
-    out.extend_from_slice(field)?;
-    out.push(end)?;
-    Ok(())
+    push_field(name.text(), b' ', out)?;
+    push_field(print(savings).as_str().as_bytes(), b' ', out)?;
+    push_field(print(checking).as_str().as_bytes(), b'\n', out)
 }

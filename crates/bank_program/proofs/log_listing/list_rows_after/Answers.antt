@@ -13,7 +13,7 @@ use Rattle.sb_calls.specs.declared.call.Call.{Call}
 use Rattle.sb_sequencer.specs.Numbering.{calls_of}
 use Rattle.sb_replica.specs.Replica.{ReplicaOf, RestOf}
 use Rattle.bank_server.specs.Input.{in_opening}
-use Rattle.bank_server.proofs.WholeReplies.{after_ok}
+use Rattle.bank_server.proofs.boards.WholeReplies.{after_ok}
 use Rattle.bank_server.specs.Primary.{PrimaryOf, PreservesBank}
 use Rattle.bank_program.specs.LogListing.{AreRowsAfter}
 use Rattle.bank_program.specs.Opening.{with_nothing_behind, whole_opening_of}
@@ -80,7 +80,7 @@ returns-clause-listed c =
       primary.node.names,
       columns,
       rows_after_log text opening c.args.found.log.value.log c.in_ok-primary.primary primary columns read c.in_ok-primary.ensures.log
-          (ap (λ (n : ReplicaOf _). n.names) node) (ap (λ (n : ReplicaOf _). n.board.opening) node) c.settle.ensures.log c.settle.ensures.bank rows,
+          (ap (λ (n : ReplicaOf _). n.names) node) (ap (λ (n : ReplicaOf _). n.board.opening) node) c.settle.ensures.log c.settle.ensures.serves.bank rows,
       listed_is (map customer_line (customers_of c.directory.result.now columns)) c.new-listed.result.items c.list_customers.new.out.items
           c.extend_from_slice.new.self.items c.new-listed.ensures.items c.in_ok-list_customers.ensures c.in_ok-extend_from_slice.ensures.items
           ∙ ap (λ (d : List (List ℕ)). unlines (opening_lines (customers_of d columns))) names,

@@ -30,6 +30,6 @@ one_listed log before start out longer ask lt is so_far grown =
 
 pub loop-before-preserved : goal.loop-before-preserved
 loop-before-preserved c =
-    one_listed c.args.log.now.log c.loop-before.before c.args.out.now.items c.loop-before.out.items c.push_ask.new.out.items c.unwrap-call.result
+    one_listed c.args.log.now.log c.loop-before.before c.args.out.now.items c.loop-before.out.items c.push_ask_line.new.out.items c.unwrap-call.result
     (omega (arith, c.length-before-end.ensures.value, c.loop-before-test.true)) (sym c.ask_of.ensures ∙ c.unwrap-call.ensures) c.loop-before.invariant
-    c.in_ok-push_ask.ensures
+    c.in_ok-push_ask_line.ensures
