@@ -1,7 +1,7 @@
 -- What happens to clients, one thing after another.
 use Rattle.std.proofs.Common.{◌≡◌, ℕ, Option, Some, None, List, [], ◌∷◌, ◌++◌, refl, sym, ap, subst, ◌∙◌, append-nil, append_assoc, ◌<◌, drop, length}
 use Rattle.std.specs.Prelude.{IfSome, slice_get, slice_set, take}
-use Rattle.std.specs.List.{All, flat_map, fold}
+use Rattle.std.specs.List.{All, flat_map}
 use Rattle.std.proofs.lemmas.Grind.{flat_map-append}
 use Rattle.std.proofs.lemmas.List.Elements.{All-append, All-cons, All-nil}
 use Rattle.std.proofs.lemmas.List.Sums.{fold-append}
@@ -12,8 +12,8 @@ use Rattle.sb_calls.specs.declared.ask.Key.{Key}
 use Rattle.sb_calls.specs.declared.call.Call.{Call}
 use Rattle.sb_rows.specs.Rows.{Rows}
 use Rattle.sb_sequencer.specs.Numbering.{IsLog}
-use Rattle.bank_server.proofs.ClientPlaces.{fresh_ready, fresh_served}
-use Rattle.bank_server.proofs.OwnLog.{own_log}
+use Rattle.bank_server.proofs.clients.ClientPlaces.{fresh_ready, fresh_served}
+use Rattle.bank_server.proofs.sessions.OwnLog.{own_log}
 use Rattle.bank_server.specs.Clients.{ClientOf, ClientsOf, IsReady, IsServed, Piece, ServesTurn, StaysServed, TakesFromFront, fresh_client, no_past, past_with, sends}
 use Rattle.bank_clients.specs.History.{ComesAndGoes, GoesOn, ClientEvent, HistoryOf, IsInOrder, OutsideOf, ServesEach, TakesBytes, bytes_in, first_history, history_after, pieces_in, with_client_event}
 use Rattle.bank_clients.specs.History.{Joins, Comes, Takes}

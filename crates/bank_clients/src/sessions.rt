@@ -1,10 +1,10 @@
 //! The sessions of clients who are served at once.
-ghost use Rattle.std.specs.Prelude.{◌≡◌, ◌<◌, ℕ, length, false, IfErr, IfOk, IfSome, OnOk, slice_get};
+ghost use Rattle.std.specs.Prelude.{◌≡◌, ◌<◌, ℕ, length, IfErr, IfOk, IfSome, OnOk, slice_get};
 ghost use Rattle.std.specs.List.{All};
-ghost use Rattle.cown_workers.specs.Draining.{HasNoneOut};
 ghost use Rattle.bank_server.specs.Clients.{IsReady, fresh_client};
-ghost use Rattle.bank_server.specs.Primary.{PreservesBank, opening_rows_of};
-ghost use Rattle.bank_server.specs.SessionFaults.{IsSettleFault, IsTurnFault, LosesCrew, LosesLog};
+ghost use Rattle.bank_server.specs.Primary.{opening_rows_of};
+ghost use Rattle.bank_server.specs.ServesOn.{ServesOn};
+ghost use Rattle.bank_server.specs.SessionFaults.{IsSettleFault, IsTurnFault};
 ghost use Rattle.bank_clients.specs.History.{GoesOn};
 ghost use Rattle.bank_clients.specs.Sessions.{IsOver, outside_of};
 
@@ -107,11 +107,9 @@ impl<A: Connections> Sessions<A> {
             (outside_of A.coming A.sent self.new.connections) primary.new.log self.new.clients.all) }
         ensures kept_after_fault { IfErr result (λ fault. IsSettleFault fault
             → K.Keeps primary.new.keeper primary.new.log) }
-        ensures bank { PreservesBank K.Keeps K.opening K.has_failed primary.old primary.new }
-        ensures none_out { C.keeps ≡ false → HasNoneOut primary.old.node.board → HasNoneOut primary.new.node.board }
+        // What was kept stays kept, and a crew that keeps no job leaves none out, after a fault too.
+        ensures serves { ServesOn K.Keeps K.opening K.has_failed K.fails C.keeps result primary.old primary.new }
         ensures fault { IfErr result IsTurnFault }
-        ensures crew_lost { IfErr result (LosesCrew C.keeps primary.old.node.board) }
-        ensures log_lost { IfErr result (LosesLog K.fails (K.has_failed primary.new.keeper)) }
     {
         admit_all(&mut self.connections, &mut self.clients);
         self.clients.turn(&mut self.connections, primary, crew)?;

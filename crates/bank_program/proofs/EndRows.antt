@@ -9,7 +9,7 @@ use Rattle.cown_board.specs.Board.{IsAfterAll, unfinished_of}
 use Rattle.sb_replica.specs.Replica.{ReplicaOf}
 use Rattle.sb_sequencer.specs.Numbering.{calls_of}
 use Rattle.bank_server.specs.Primary.{HasWholeLog, IsPrimary, PrimaryOf, log_ops}
-use Rattle.bank_server.proofs.Boards.{one_by_one}
+use Rattle.bank_server.proofs.boards.Boards.{one_by_one}
 
 module _ {S K : Type 0} (primary : PrimaryOf S K) (node : ReplicaOf S) (is : node ≡ primary.node) (valid : IsPrimary primary) (all : HasWholeLog primary) where
   -- the columns after the whole log are the rows after the log, one by one

@@ -12,7 +12,7 @@ use Rattle.sb_frames.specs.declared.fault.FrameFault.{FrameFault}
 use Rattle.sb_frames.specs.declared.fault.FrameFault.TheVariants.{Short}
 use Rattle.sb_frames.specs.declared.frame.Frame.{Frame}
 use Rattle.schedule_player.specs.Bank.{BankOf}
-use Rattle.bank_server.proofs.ClientAsks.{All-behind}
+use Rattle.bank_server.proofs.clients.ClientAsks.{All-behind}
 use Rattle.bank_program.specs.FollowerMoves.{HandlesMessages, HearsOut, IsFollowerOf, IsSentToFollowers, MessagesMove, MovesAlong, SpellTheLog, follower_node, frames_heard}
 use Rattle.bank_server.specs.FollowerTurns.{FollowerOf, HandlesMessage}
 use Rattle.bank_program.proofs.FramesHandedOut.{all_before, given_first, spelled_log}

@@ -14,7 +14,7 @@ use Rattle.sb_frames.specs.declared.frame.Frame.{Frame}
 use Rattle.sb_replica.proofs.ReceivedStreams.{handed_append}
 use Rattle.sb_replica.specs.Streams.{HandsOutAll}
 use Rattle.schedule_player.specs.Bank.{BankOf}
-use Rattle.bank_server.proofs.ClientAsks.{All-behind, All-front}
+use Rattle.bank_server.proofs.clients.ClientAsks.{All-behind, All-front}
 use Rattle.bank_program.specs.FollowerMoves.{HandsOutTheLog, IsSentToFollowers, SpellTheLog}
 
 -- ---- frames before the rest

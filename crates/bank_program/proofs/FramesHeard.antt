@@ -21,7 +21,7 @@ use Rattle.schedule_player.specs.FramesOfLog.{IsEntryOf}
 use Rattle.schedule_player.specs.ReplicaMoves.{frame_move}
 use Rattle.schedule_player.proofs.entries.EntryOffers.{IsLogAlong, entry_alike, offer_along}
 use Rattle.schedule_player.proofs.entries.FrameSteps.{number_within, whole_spelled}
-use Rattle.bank_server.proofs.Boards.{none_out_more}
+use Rattle.bank_server.proofs.boards.Boards.{none_out_more}
 use Rattle.bank_program.specs.FollowerMoves.{Hears, IsFollowerOf, IsSentToFollowers, MovesLead, follower_node, node_after}
 
 -- ---- nothing gets out

@@ -6,7 +6,7 @@ use Rattle.sb_rows.specs.Rows.{Rows}
 use Rattle.sb_calls.specs.declared.ask.Key.{Key}
 use Rattle.sb_calls.specs.declared.call.Call.{Call}
 use Rattle.sb_sequencer.specs.Numbering.{IsLog, first_asks}
-use Rattle.bank_server.proofs.OwnLog.{own_log}
+use Rattle.bank_server.proofs.sessions.OwnLog.{own_log}
 use Rattle.bank_server.specs.Session.{IsFromClient}
 use Rattle.bank_server.specs.declared.session.session_fault.SessionFault.TheVariants.{Device}
 use Rattle.bank_program.specs.Sessions.{IsSession}

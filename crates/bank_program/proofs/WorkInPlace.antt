@@ -29,7 +29,7 @@ use Rattle.schedule_player.proofs.boards.FirstUndone.{all_done}
 use Rattle.schedule_player.proofs.NodeMoves.{same_node}
 use Rattle.schedule_player.proofs.boards.Stages.{length-map, length_stages, undone_in_stages}
 use Rattle.schedule_player.proofs.hands.WorkSteps.{worked, works, all_worked}
-use Rattle.bank_server.proofs.Boards.{idle_none_out}
+use Rattle.bank_server.proofs.boards.Boards.{idle_none_out}
 use Rattle.bank_program.specs.FollowerMoves.{FollowerMove, Takes, Finishes, IsFollowerOf, MovesLead, follower_node, node_after}
 use Rattle.bank_server.specs.FollowerTurns.{RunsAll}
 

@@ -1,8 +1,7 @@
 //! One client.
-ghost use Rattle.std.specs.Prelude.{◌≡◌, false, IfErr, IfSome};
-ghost use Rattle.cown_workers.specs.Draining.{HasNoneOut};
-ghost use Rattle.bank_server.specs.Primary.{PreservesBank, opening_rows_of};
-ghost use Rattle.bank_server.specs.SessionFaults.{LosesCrew, LosesLog};
+ghost use Rattle.std.specs.Prelude.{IfSome};
+ghost use Rattle.bank_server.specs.Primary.{opening_rows_of};
+ghost use Rattle.bank_server.specs.ServesOn.{ServesOn};
 ghost use Rattle.sb_sequencer.specs.Numbering.{IsLog};
 ghost use Rattle.bank_program.specs.Sessions.{IsSession};
 
@@ -41,10 +40,8 @@ where
     ensures session { IfSome (R.remaining client.old.reader) (λ sent.
         IsSession (opening_rows_of primary.old) primary.old.log sent result primary.new.log
         (W.contents client.old.writer) (W.contents client.new.writer)) }
-    ensures bank { PreservesBank K.Keeps K.opening K.has_failed primary.old primary.new }
-    ensures none_out { C.keeps ≡ false → HasNoneOut primary.old.node.board → HasNoneOut primary.new.node.board }
-    ensures crew_lost { IfErr result (LosesCrew C.keeps primary.old.node.board) }
-    ensures log_lost { IfErr result (LosesLog K.fails (K.has_failed primary.new.keeper)) }
+    // The bank goes on, after a fault too.
+    ensures serves { ServesOn K.Keeps K.opening K.has_failed K.fails C.keeps result primary.old primary.new }
 {
     if set_up(&client.reader, patience).is_err() {
         return Err(SessionFault::Device);

@@ -13,6 +13,7 @@ pub mod Pending
 pub mod PreparedInput
 pub mod Primary
 pub mod Saving
+pub mod ServesOn
 pub mod Session
 pub mod SessionFaults
 pub mod SessionResults

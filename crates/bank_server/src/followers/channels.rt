@@ -47,7 +47,7 @@ impl<'a, R: Wait> FollowerChannels<'a, R> {
         for index in from..to.min(calls.len()) {
             bytes.extend_from_slice(&encode_entry(index as u64 + 1, &calls[index]))?;
         }
-        self.send(bytes)
+        self.send_to_all(bytes)
     }
 
     /// Has the followers execute what was sent.
@@ -55,7 +55,7 @@ impl<'a, R: Wait> FollowerChannels<'a, R> {
         if self.senders.is_empty() {
             return Ok(());
         }
-        self.send(Vec::from_slice(self.alloc, &encode(&Frame::Flush))?)
+        self.send_to_all(Vec::from_slice(self.alloc, &encode(&Frame::Flush))?)
     }
 
     /// Sends nothing more.
@@ -66,7 +66,7 @@ impl<'a, R: Wait> FollowerChannels<'a, R> {
     }
 
     // Sends these bytes to each follower. The comparison finds out whether one is gone.
-    fn send(&self, bytes: Vec<u8>) -> Result<(), AllocError> {
+    fn send_to_all(&self, bytes: Vec<u8>) -> Result<(), AllocError> {
         let message = Arc::new(self.alloc, bytes)?;
         for end in &self.senders {
             let _ = end.send(self.rt, Arc::try_clone(&message)?);

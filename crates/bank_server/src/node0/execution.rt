@@ -109,7 +109,7 @@ pub(crate) fn submit_all<S: CheckpointStore, C: Crew>(
     ensures fault { IfErr result (IsExecutionFault C.keeps replica.old.board) }
 {
     for op in ops {
-        submit(op, replica, crew)?;
+        submit_op(op, replica, crew)?;
     }
     Ok(())
 }
@@ -117,7 +117,7 @@ pub(crate) fn submit_all<S: CheckpointStore, C: Crew>(
 /// Appends an op to the log. When the board is full, everything unfinished is executed first.
 ///
 /// Fails as [`execute_calls`] does. The log is as it was then.
-pub(crate) fn submit<S: CheckpointStore, C: Crew>(
+pub(crate) fn submit_op<S: CheckpointStore, C: Crew>(
     op: &Op,
     replica: &mut Replica<S>,
     crew: &mut C,

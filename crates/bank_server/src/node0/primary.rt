@@ -1,10 +1,9 @@
 //! The log, node 0, which executes it, and who keeps it.
-ghost use Rattle.std.specs.Prelude.{◌≡◌, ◌≢◌, ◌≤◌, ◌↔◌, [], List, length, false, IfOk, IfErr, IsErrOf, MatchOption, OnOk, OnErr};
+ghost use Rattle.std.specs.Prelude.{◌≡◌, ◌≢◌, ◌≤◌, ◌↔◌, [], List, length, IfOk, IfErr, IsErrOf, MatchOption, OnOk, OnErr};
 ghost use Rattle.sb_calls.specs.declared.ask.Key.{Key as AnyKey};
 ghost use Rattle.sb_calls.specs.declared.call.Call.{Call as AnyCall};
 ghost use Rattle.sb_rows.specs.Rows.{SameCustomers};
 ghost use Rattle.cown_board.specs.Board.{length_of, unfinished_of};
-ghost use Rattle.cown_workers.specs.Draining.{HasNoneOut};
 ghost use Rattle.sb_checkpoint.specs.Stores.{StoreDoes};
 ghost use Rattle.sb_replica.specs.Replica.{rest_of, replica_at_opening};
 ghost use Rattle.sb_sequencer.specs.Numbering.{IsLog, calls_of, first_asks};
@@ -16,10 +15,11 @@ ghost use Rattle.bank_server.specs.Faults.{IsExecutionFault};
 ghost use Rattle.bank_server.specs.Primary.{HasWholeLog, IsPrimary, PreservesBank, RunsLog, log_ops, node_at_opening};
 ghost use Rattle.bank_server.specs.inner.NumberedAsks.{NumbersAsks};
 ghost use Rattle.bank_server.specs.Saving.{StoresCheckpoint, IsSaveFaultOf, Saves};
-ghost use Rattle.bank_server.specs.SessionFaults.{IsLogFault, IsSettleFault, LosesCrew};
+ghost use Rattle.bank_server.specs.ServesOn.{ServesOn};
+ghost use Rattle.bank_server.specs.SessionFaults.{IsLogFault, IsSettleFault};
 ghost use Rattle.bank_server.specs.Standing.{IsStandingWithin};
 
-use super::execution::{execute_calls, execute_unfinished, submit};
+use super::execution::{execute_calls, execute_unfinished, submit_op};
 use super::save_fault::SaveFault;
 use crate::followers::Followers;
 use crate::input::{Standing, standing_of};
@@ -175,15 +175,14 @@ impl<S: CheckpointStore, K: Keeper> Primary<S, K> {
         ensures offered { OnOk result (self.new.node.board.log ≡ log_ops self.new.node.names self.new.log) }
         ensures log { self.new.log ≡ self.old.log }
         ensures one_each { IsLog self.new.log }
-        ensures bank { PreservesBank K.Keeps K.opening K.has_failed self.old self.new }
-        ensures none_out { C.keeps ≡ false → HasNoneOut self.old.node.board → HasNoneOut self.new.node.board }
+        // The bank goes on, after a fault too.
+        ensures serves { ServesOn K.Keeps K.opening K.has_failed K.fails C.keeps result self.old self.new }
         ensures fault { IfErr result IsSettleFault }
-        ensures crew_lost { IfErr result (LosesCrew C.keeps self.old.node.board) }
     {
         for number in self.node.length() + 1..self.log.length() + 1 {
             let call = self.log.call(number).unwrap();
             let op = resolve(self.node.directory(), call);
-            submit(&op, &mut self.node, crew)?;
+            submit_op(&op, &mut self.node, crew)?;
         }
         Ok(())
     }
@@ -201,11 +200,9 @@ impl<S: CheckpointStore, K: Keeper> Primary<S, K> {
         ensures log { self.new.log ≡ self.old.log }
         // It has one number for each key.
         ensures one_each { IsLog self.new.log }
-        ensures bank { PreservesBank K.Keeps K.opening K.has_failed self.old self.new }
-        // A crew that keeps no job leaves none out, after a fault too.
-        ensures none_out { C.keeps ≡ false → HasNoneOut self.old.node.board → HasNoneOut self.new.node.board }
+        // What was kept stays kept, and a crew that keeps no job leaves none out, after a fault too.
+        ensures serves { ServesOn K.Keeps K.opening K.has_failed K.fails C.keeps result self.old self.new }
         ensures fault { IfErr result IsSettleFault }
-        ensures crew_lost { IfErr result (LosesCrew C.keeps self.old.node.board) }
     {
         self.offer_rest(crew)?;
         Ok(execute_unfinished(&mut self.node, crew)?)

@@ -1,10 +1,10 @@
 //! Clients who are served at once.
-ghost use Rattle.std.specs.Prelude.{◌≡◌, ◌⊎◌, ◌≤◌, ◌<◌, ◌∷◌, ◌++◌, ◌↔◌, [], ℕ, List, drop, length, take, false, IfErr, IfOk, IfSome, IsTrue, OnErr, OnOk, slice_get, slice_set};
+ghost use Rattle.std.specs.Prelude.{◌≡◌, ◌⊎◌, ◌≤◌, ◌<◌, ◌∷◌, ◌++◌, ◌↔◌, [], ℕ, List, drop, length, take, IfErr, IfOk, IfSome, IsTrue, OnErr, OnOk, slice_get, slice_set};
 ghost use Rattle.std.specs.List.{All};
-ghost use Rattle.cown_workers.specs.Draining.{HasNoneOut};
 ghost use Rattle.bank_server.specs.Clients.{AreCalmBut, ClientOf, IsReady, IsServed, StaysReady, StaysServed, ServesTurn, fresh_client, no_past, past_with, sends};
-ghost use Rattle.bank_server.specs.Primary.{HasWholeLog, PreservesBank, opening_rows_of};
-ghost use Rattle.bank_server.specs.SessionFaults.{IsSettleFault, IsTurnFault, LosesCrew, LosesLog};
+ghost use Rattle.bank_server.specs.Primary.{opening_rows_of};
+ghost use Rattle.bank_server.specs.ServesOn.{ServesOn};
+ghost use Rattle.bank_server.specs.SessionFaults.{IsSettleFault, IsTurnFault};
 
 use super::READ_BYTES;
 use super::arrivals::Arrivals;
@@ -163,12 +163,9 @@ impl Clients {
         ensures calm { OnOk result (AreCalmBut self.new.stirred self.old.all self.new.all) }
         ensures kept_after_fault { IfErr result (λ fault. IsSettleFault fault
             → K.Keeps primary.new.keeper primary.new.log) }
-        ensures bank { PreservesBank K.Keeps K.opening K.has_failed primary.old primary.new }
-        // A crew that keeps no job leaves none out, after a fault too.
-        ensures none_out { C.keeps ≡ false → HasNoneOut primary.old.node.board → HasNoneOut primary.new.node.board }
+        // What was kept stays kept, and a crew that keeps no job leaves none out, after a fault too.
+        ensures serves { ServesOn K.Keeps K.opening K.has_failed K.fails C.keeps result primary.old primary.new }
         ensures fault { IfErr result IsTurnFault }
-        ensures crew_lost { IfErr result (LosesCrew C.keeps primary.old.node.board) }
-        ensures log_lost { IfErr result (LosesLog K.fails (K.has_failed primary.new.keeper)) }
     {
         self.stirred.clear();
         let served = serve_turn(
@@ -206,11 +203,9 @@ fn serve_turn<A: Arrivals, S: CheckpointStore, K: Keeper, C: Crew>(
     ensures as_many { length clients.new ≡ length clients.old }
     ensures kept { OnOk result (K.Keeps primary.new.keeper primary.new.log ⊎ (stirred.new.items ≡ [])) }
     ensures calm { OnOk result (AreCalmBut stirred.new.items clients.old clients.new) }
-    ensures bank { PreservesBank K.Keeps K.opening K.has_failed primary.old primary.new }
-    ensures none_out { C.keeps ≡ false → HasNoneOut primary.old.node.board → HasNoneOut primary.new.node.board }
+    // The bank goes on, after a fault too.
+    ensures serves { ServesOn K.Keeps K.opening K.has_failed K.fails C.keeps result primary.old primary.new }
     ensures fault { IfErr result IsTurnFault }
-    ensures crew_lost { IfErr result (LosesCrew C.keeps primary.old.node.board) }
-    ensures log_lost { IfErr result (LosesLog K.fails (K.has_failed primary.new.keeper)) }
 {
     take_arrivals(arrivals, chunk, clients, stirred, primary)?;
     if stirred.is_empty() {

@@ -1,18 +1,18 @@
 //! A client's session.
 ghost use Rattle.std.specs.Prelude.{◌≡◌, ◌≤◌, ◌+◌, [], length, false, IfErr, IfSome, OnOk};
-ghost use Rattle.cown_workers.specs.Draining.{HasNoneOut};
 ghost use Rattle.sb_frames.specs.Streaming.{IsShort};
 ghost use Rattle.bank_server.specs.Pending.{ArePendingWithin};
-ghost use Rattle.bank_server.specs.Primary.{HasWholeLog, PreservesBank, opening_rows_of};
+ghost use Rattle.bank_server.specs.Primary.{HasWholeLog, opening_rows_of};
 ghost use Rattle.bank_server.specs.inner.FlushFaults.{IsEndFault, IsFlushFault};
 ghost use Rattle.bank_server.specs.inner.SessionSteps.{LeadsSession, StopsSession, WritesDue, session_state};
-ghost use Rattle.bank_server.specs.SessionFaults.{IsClientFault, LosesCrew, LosesLog};
+ghost use Rattle.bank_server.specs.ServesOn.{ServesOn};
+ghost use Rattle.bank_server.specs.SessionFaults.{IsClientFault};
 ghost use Rattle.bank_server.specs.SessionResults.{ServesSession, ServesUntilFault};
 
 use super::ASKS_OF_SESSION;
 use super::inbox::{Inbox, take_bytes};
 use super::session_fault::SessionFault;
-use super::telling::{settle_and_keep, tell};
+use super::telling::{settle_and_keep, tell_outcomes};
 use crate::node0::Primary;
 use cown_workers::Crew;
 use sb_ask_log::Keeper;
@@ -66,11 +66,8 @@ pub fn serve_session<R: Read, W: Write, S: CheckpointStore, K: Keeper, C: Crew>(
     ensures kept { OnOk result (K.Keeps primary.new.keeper primary.new.log) }
     ensures kept_after_fault { IfErr result (λ fault. IsClientFault fault
         → K.Keeps primary.new.keeper primary.new.log) }
-    ensures bank { PreservesBank K.Keeps K.opening K.has_failed primary.old primary.new }
-    // A crew that keeps no job leaves none out, after a fault too.
-    ensures none_out { C.keeps ≡ false → HasNoneOut primary.old.node.board → HasNoneOut primary.new.node.board }
-    ensures crew_lost { IfErr result (LosesCrew C.keeps primary.old.node.board) }
-    ensures log_lost { IfErr result (LosesLog K.fails (K.has_failed primary.new.keeper)) }
+    // What was kept stays kept, and a crew that keeps no job leaves none out, after a fault too.
+    ensures serves { ServesOn K.Keeps K.opening K.has_failed K.fails C.keeps result primary.old primary.new }
 {
     let served = serve_frames(alloc, reader, writer, primary, crew);
     // What was numbered is kept, whatever ended the session.
@@ -92,10 +89,8 @@ fn serve_frames<R: Read, W: Write, S: CheckpointStore, K: Keeper, C: Crew>(
     ensures cut_short { IfErr result (λ fault. IfSome (R.remaining reader.old) (λ input.
         ServesUntilFault (opening_rows_of primary.old) primary.old.log primary.new.log (W.contents writer.old)
         (W.contents writer.new) input fault)) }
-    ensures bank { PreservesBank K.Keeps K.opening K.has_failed primary.old primary.new }
-    ensures none_out { C.keeps ≡ false → HasNoneOut primary.old.node.board → HasNoneOut primary.new.node.board }
-    ensures crew_lost { IfErr result (LosesCrew C.keeps primary.old.node.board) }
-    ensures log_lost { IfErr result (LosesLog K.fails (K.has_failed primary.new.keeper)) }
+    // The bank goes on, after a fault too.
+    ensures serves { ServesOn K.Keeps K.opening K.has_failed K.fails C.keeps result primary.old primary.new }
 {
     primary.settle(crew)?;
     let mut inbox = Inbox::new(alloc);
@@ -146,10 +141,8 @@ fn serve_bytes<W: Write, S: CheckpointStore, K: Keeper, C: Crew>(
     ensures stops { IfErr result (λ fault. StopsSession (opening_rows_of primary.old)
         (session_state primary.old.log inbox.old (W.contents writer.old)) inbox.old.stream.unread bytes.now fault
         (session_state primary.new.log inbox.new (W.contents writer.new))) }
-    ensures bank { PreservesBank K.Keeps K.opening K.has_failed primary.old primary.new }
-    ensures none_out { C.keeps ≡ false → HasNoneOut primary.old.node.board → HasNoneOut primary.new.node.board }
-    ensures crew_lost { IfErr result (LosesCrew C.keeps primary.old.node.board) }
-    ensures log_lost { IfErr result (LosesLog K.fails (K.has_failed primary.new.keeper)) }
+    // The bank goes on, after a fault too.
+    ensures serves { ServesOn K.Keeps K.opening K.has_failed K.fails C.keeps result primary.old primary.new }
 {
     let taken = take_bytes(bytes, ASKS_OF_SESSION, inbox, primary);
     write_due(inbox, outcomes, writer, primary, crew)?;
@@ -176,10 +169,8 @@ fn write_due<W: Write, S: CheckpointStore, K: Keeper, C: Crew>(
     ensures stream { inbox.new.stream ≡ inbox.old.stream }
     ensures log { primary.new.log ≡ primary.old.log }
     ensures fault { IfErr result IsFlushFault }
-    ensures bank { PreservesBank K.Keeps K.opening K.has_failed primary.old primary.new }
-    ensures none_out { C.keeps ≡ false → HasNoneOut primary.old.node.board → HasNoneOut primary.new.node.board }
-    ensures crew_lost { IfErr result (LosesCrew C.keeps primary.old.node.board) }
-    ensures log_lost { IfErr result (LosesLog K.fails (K.has_failed primary.new.keeper)) }
+    // The bank goes on, after a fault too.
+    ensures serves { ServesOn K.Keeps K.opening K.has_failed K.fails C.keeps result primary.old primary.new }
 {
     if inbox.due == 0 {
         return Ok(());
@@ -187,7 +178,7 @@ fn write_due<W: Write, S: CheckpointStore, K: Keeper, C: Crew>(
     settle_and_keep(primary, crew)?;
     outcomes.clear();
     inbox.push_due(primary, outcomes)?;
-    if tell(writer, outcomes, primary).is_err() {
+    if tell_outcomes(writer, outcomes, primary).is_err() {
         return Err(SessionFault::Device);
     }
     Ok(())
@@ -203,10 +194,8 @@ fn end<S: CheckpointStore, K: Keeper, C: Crew>(
     ensures whole_log { OnOk result (HasWholeLog primary.new) }
     ensures log { primary.new.log ≡ primary.old.log }
     ensures fault { IfErr result (IsEndFault inbox.now.stream) }
-    ensures bank { PreservesBank K.Keeps K.opening K.has_failed primary.old primary.new }
-    ensures none_out { C.keeps ≡ false → HasNoneOut primary.old.node.board → HasNoneOut primary.new.node.board }
-    ensures crew_lost { IfErr result (LosesCrew C.keeps primary.old.node.board) }
-    ensures log_lost { IfErr result (LosesLog K.fails (K.has_failed primary.new.keeper)) }
+    // The bank goes on, after a fault too.
+    ensures serves { ServesOn K.Keeps K.opening K.has_failed K.fails C.keeps result primary.old primary.new }
 {
     if !inbox.stream.ended() {
         return Err(SessionFault::Frame(FrameFault::Short));

@@ -1,9 +1,9 @@
 //! Telling a client the outcomes of its asks.
-ghost use Rattle.std.specs.Prelude.{◌≡◌, false, IfErr, OnOk};
+ghost use Rattle.std.specs.Prelude.{◌≡◌, IfErr, OnOk};
 ghost use Rattle.std.specs.Io.KnownBytes.{Appends};
-ghost use Rattle.cown_workers.specs.Draining.{HasNoneOut};
-ghost use Rattle.bank_server.specs.Primary.{HasWholeLog, PreservesBank};
-ghost use Rattle.bank_server.specs.SessionFaults.{IsTurnFault, LosesCrew, LosesLog};
+ghost use Rattle.bank_server.specs.Primary.{HasWholeLog};
+ghost use Rattle.bank_server.specs.ServesOn.{ServesOn};
+ghost use Rattle.bank_server.specs.SessionFaults.{IsTurnFault};
 
 use super::session_fault::SessionFault;
 use crate::node0::Primary;
@@ -22,11 +22,9 @@ pub(crate) fn settle_and_keep<S: CheckpointStore, K: Keeper, C: Crew>(
     ensures whole_log { OnOk result (HasWholeLog primary.new) }
     ensures kept { OnOk result (K.Keeps primary.new.keeper primary.new.log) }
     ensures log { primary.new.log ≡ primary.old.log }
-    ensures bank { PreservesBank K.Keeps K.opening K.has_failed primary.old primary.new }
-    ensures none_out { C.keeps ≡ false → HasNoneOut primary.old.node.board → HasNoneOut primary.new.node.board }
+    // The bank goes on, after a fault too.
+    ensures serves { ServesOn K.Keeps K.opening K.has_failed K.fails C.keeps result primary.old primary.new }
     ensures fault { IfErr result IsTurnFault }
-    ensures crew_lost { IfErr result (LosesCrew C.keeps primary.old.node.board) }
-    ensures log_lost { IfErr result (LosesLog K.fails (K.has_failed primary.new.keeper)) }
 {
     primary.settle(crew)?;
     primary.keep()
@@ -34,7 +32,7 @@ pub(crate) fn settle_and_keep<S: CheckpointStore, K: Keeper, C: Crew>(
 
 /// Writes outcomes by a log that is kept. No other function tells them.
 #[inline]
-pub(crate) fn tell<W: Write, S: CheckpointStore, K: Keeper>(
+pub(crate) fn tell_outcomes<W: Write, S: CheckpointStore, K: Keeper>(
     writer: &mut W,
     outcomes: &[u8],
     _primary: &Primary<S, K>,

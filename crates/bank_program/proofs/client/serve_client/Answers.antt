@@ -1,4 +1,4 @@
-use Rattle.bank_server.proofs.Keeping.{stays_bank}
+use Rattle.bank_server.proofs.sessions.Serving.{serves_still}
 use Rattle.bank_server.specs.Primary.{opening_rows_of}
 use Rattle.bank_program.proofs.UnheardClients.{not_heard}
 use Rattle.bank_program.proofs.client.serve_client.Goals as goal
@@ -8,5 +8,5 @@ returns-then-is_err-clause-session g c =
     not_heard (opening_rows_of c.args.primary.now) c.args.primary.now.log c.requires.one_each (g.R.Read.remaining c.args.client.now.reader)
     (g.W.Write.contents c.args.client.now.writer)
 
-pub returns-then-is_err-clause-bank : goal.returns-then-is_err-clause-bank
-returns-then-is_err-clause-bank g c = stays_bank c.args.primary.now
+pub returns-then-is_err-clause-serves : goal.returns-then-is_err-clause-serves
+returns-then-is_err-clause-serves g c = serves_still _ c.args.primary.now tt tt

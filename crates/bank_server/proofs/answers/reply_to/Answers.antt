@@ -4,7 +4,7 @@ use Rattle.sb_calls.specs.Behaviour.{declared_cowns, effect_of}
 use Rattle.sb_calls.specs.Cowns.{contents_of}
 use Rattle.sb_calls.specs.SerialRun.{reply_by_log}
 use Rattle.cown_board.specs.Board.{reply_in}
-use Rattle.bank_server.proofs.Boards.{some_reply, told_of}
+use Rattle.bank_server.proofs.boards.Boards.{some_reply, told_of}
 use Rattle.bank_server.proofs.answers.reply_to.Goals as goal
 
 pub unwrap-requires : goal.unwrap-requires

@@ -1,4 +1,4 @@
-use Rattle.bank_server.proofs.FinalOutcomes.{told_outcomes_stand}
+use Rattle.bank_server.proofs.sessions.FinalOutcomes.{told_outcomes_stand}
 use Rattle.bank_server.proofs.laws.told_outcomes_stand.Goals as goal
 
 pub returns : goal.returns

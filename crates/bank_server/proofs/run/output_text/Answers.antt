@@ -7,7 +7,7 @@ use Rattle.bank_server.specs.PreparedInput.{output_after}
 use Rattle.bank_server.specs.Primary.{RunsLog}
 use Rattle.bank_server.specs.Standing.{IsStandingWithin}
 use Rattle.bank_server.specs.declared.input.asking.Standing.{Standing}
-use Rattle.bank_server.proofs.Runs.{among, output}
+use Rattle.bank_server.proofs.boards.Runs.{among, output}
 use Rattle.bank_server.proofs.run.output_text.Goals as goal
 
 pub push_output-requires-clause-ran : goal.push_output-requires-clause-ran

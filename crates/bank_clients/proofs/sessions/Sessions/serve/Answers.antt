@@ -1,8 +1,9 @@
 use Rattle.std.proofs.Common.{List, ap, length, subst, sym}
 use Rattle.std.specs.List.{All}
+use Rattle.std.proofs.lemmas.Result.{err_from_is_err_and}
 use Rattle.bank_server.specs.Clients.{ClientOf, IsReady}
 use Rattle.bank_server.specs.Primary.{opening_rows_of}
-use Rattle.bank_server.proofs.FrameSteps.{keeps_on}
+use Rattle.bank_server.proofs.sessions.Serving.{keep_serves, serves_behind, serves_kept}
 use Rattle.bank_clients.specs.History.{GoesOn}
 use Rattle.bank_clients.specs.Sessions.{SessionsOf, outside_of}
 use Rattle.bank_clients.proofs.Histories.{round_goes_on}
@@ -17,11 +18,19 @@ turn-requires g c =
           c.requires.ready);
     }
 
-pub returns-in_err-keep-clause-bank : goal.returns-in_err-keep-clause-bank
-returns-in_err-keep-clause-bank g c = keeps_on c.args.primary.now c.turn.new.primary c.keep.new.self c.turn.ensures.bank c.keep.ensures.bank
+pub returns-in_err-keep-clause-serves : goal.returns-in_err-keep-clause-serves
+returns-in_err-keep-clause-serves g c =
+    let p = err_from_is_err_and c.from_residual-in_err-keep.result c.from_residual-in_err-keep.ensures.1 in
+    let mid = c.turn.new.primary in
+    let step = c.turn.ensures.serves in
+    rw (p.1, p.2) (serves_behind _ c.args.primary.now mid c.keep.new.self step.bank step.none_out
+    (keep_serves _ mid c.keep.new.self c.keep.ensures.bank c.keep.ensures.unchanged c.in_err-keep.ensures.fault))
 
-pub returns-then-is_err-clause-bank : goal.returns-then-is_err-clause-bank
-returns-then-is_err-clause-bank g c = keeps_on c.args.primary.now c.turn.new.primary c.keep.new.self c.turn.ensures.bank c.keep.ensures.bank
+pub returns-then-is_err-clause-serves : goal.returns-then-is_err-clause-serves
+returns-then-is_err-clause-serves g c =
+    let step = serves_kept c.turn.result c.args.primary.now c.turn.new.primary c.keep.new.self c.turn.ensures.serves c.keep.ensures.bank
+    c.keep.ensures.unchanged in
+    record { bank = step.bank; none_out = step.none_out; crew_lost = tt; log_lost = tt }
 
 pub returns-clause-ready : goal.returns-clause-ready
 returns-clause-ready g c =

@@ -1,8 +1,8 @@
 use Rattle.std.proofs.Common.{◌≡◌, ◌∙◌, ap, false, refl, subst}
 use Rattle.cown_workers.specs.Draining.{HasNoneOut}
 use Rattle.std.proofs.lemmas.Result.{err_from_is_err_and, on_ok_weaker}
-use Rattle.bank_server.proofs.Boards.{idle_none_out}
-use Rattle.bank_server.proofs.WholeReplies.{if_err}
+use Rattle.bank_server.proofs.boards.Boards.{idle_none_out}
+use Rattle.bank_server.proofs.boards.WholeReplies.{if_err}
 use Rattle.bank_server.specs.Clients.{ClientsOf}
 use Rattle.bank_server.specs.Primary.{opening_rows_of}
 use Rattle.bank_clients.specs.History.{GoesOn}

@@ -1,4 +1,4 @@
-use Rattle.bank_server.proofs.Keeping.{stays_bank}
+use Rattle.bank_server.proofs.sessions.Keeping.{stays_bank}
 use Rattle.bank_program.proofs.many_server.ManyServer.serve_round.Goals as goal
 
 pub returns-in_err-wait-clause-bank : goal.returns-in_err-wait-clause-bank

@@ -1,6 +1,6 @@
 use Rattle.std.proofs.Common.{subst}
 use Rattle.std.proofs.lemmas.Result.{on_ok_weaker}
-use Rattle.bank_server.proofs.Boards.{idle_none_out}
+use Rattle.bank_server.proofs.boards.Boards.{idle_none_out}
 use Rattle.bank_clients.specs.Sessions.{outside_of}
 use Rattle.bank_program.specs.ServedBank.{IsBankAfter}
 use Rattle.bank_program.specs.declared.serving.Plan.{Plan}

@@ -2,7 +2,7 @@ use Rattle.std.proofs.Common.{◌≡◌, ◌+◌, true, refl, subst, ◌∙◌, 
 use Rattle.std.proofs.lemmas.Result.{err_from_is_err_and}
 use Rattle.sb_rows.specs.Rows.{Rows}
 use Rattle.bank_server.specs.Primary.{opening_rows_of}
-use Rattle.bank_server.proofs.Boards.{idle_none_out}
+use Rattle.bank_server.proofs.boards.Boards.{idle_none_out}
 use Rattle.bank_program.specs.ServeFaults.{IsFinishFault}
 use Rattle.bank_program.specs.ServedBank.{IsBankAfter}
 use Rattle.bank_program.specs.inner.ServeSteps.{ServesNext}

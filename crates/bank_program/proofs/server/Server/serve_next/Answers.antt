@@ -10,7 +10,7 @@ pub returns-clause-served : goal.returns-clause-served
 returns-clause-served g c =
     let goes : ServerContinues c.serve_client-served.result = search rules in
     one_session g.D.Reader.Read.remaining g.D.Writer.Write.contents (opening_rows_of c.args.self.now.primary) c.args.number
-    c.in_ok-client.client (record { reader = c.leave.new.stream; writer = c.serve_client-served.new.client.writer })
+    c.in_ok-client.client (record { reader = c.dismiss_client.new.stream; writer = c.serve_client-served.new.client.writer })
     (g.D.ClientListener.clients c.args.self.now.listener)
     (g.D.ClientListener.clients c.accept_client.new.self) (g.D.ClientListener.clients c.leave_client.new.self)
     c.args.self.now.primary.log c.serve_client-served.new.primary.log c.finish_session.new.primary.log c.serve_client-served.result
@@ -23,4 +23,4 @@ pub returns-in_err-finish_session-clause-fault : goal.returns-in_err-finish_sess
 returns-in_err-finish_session-clause-fault g c =
     let p = err_from_is_err_and c.from_residual-in_err-finish_session.result c.from_residual-in_err-finish_session.ensures.1 in
     rw (p.1, p.2) (finish_fault_if c.args.self.now.plan.saves g.K.Keeper.fails c.in_err-finish_session.field-0.0
-    (λ gone e none. gone e (c.serve_client-served.ensures.none_out e none)) c.in_err-finish_session.ensures.fault)
+    (λ gone e none. gone e (c.serve_client-served.ensures.serves.none_out e none)) c.in_err-finish_session.ensures.fault)

@@ -1,6 +1,6 @@
 use Rattle.std.proofs.Common.{length, refl, sym, ap, ◌∙◌}
 use Rattle.cown_board.proofs.LogLaws.{no_some as none_some}
-use Rattle.bank_server.proofs.Agreements.{same_columns}
+use Rattle.bank_server.proofs.boards.Agreements.{same_columns}
 use Rattle.bank_server.proofs.followers.agreement.difference.Goals as goal
 
 pub returns-then-customers-clause-none : goal.returns-then-customers-clause-none

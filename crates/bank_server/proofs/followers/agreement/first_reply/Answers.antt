@@ -1,5 +1,5 @@
 use Rattle.std.proofs.Common.{◌≡◌, Bool, true, false, sym, ◌∙◌, arith, refl}
-use Rattle.bank_server.proofs.Agreements.{same_before, same_replies}
+use Rattle.bank_server.proofs.boards.Agreements.{same_before, same_replies}
 use Rattle.bank_server.proofs.followers.agreement.first_reply.Goals as goal
 
 other_word : (answer : Bool) → answer ≡ false → answer ≡ true → ⊥

@@ -2,7 +2,7 @@ use Rattle.std.proofs.Common.{subst}
 use Rattle.std.specs.Prelude.{IfSome}
 use Rattle.std.specs.Result.{result_ok}
 use Rattle.bank_server.specs.FollowerTurns.{RunsAll}
-use Rattle.bank_server.proofs.FollowerTurns.{runs_all}
+use Rattle.bank_server.proofs.boards.FollowerTurns.{runs_all}
 use Rattle.bank_server.proofs.followers.follower.execute_in_place.Goals as goal
 
 pub returns-in-Ok : goal.returns-in-Ok

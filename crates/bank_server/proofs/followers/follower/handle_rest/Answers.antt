@@ -2,7 +2,7 @@ use Rattle.std.proofs.Common.{[], ◌∷◌, ◌++◌, refl, subst}
 use Rattle.sb_checkpoint.specs.declared.memory_store.MemoryStore.{MemoryStore}
 use Rattle.sb_replica.specs.Streams.{IsPause}
 use Rattle.bank_server.specs.FollowerTurns.{FollowerOf, Receives, Runs}
-use Rattle.bank_server.proofs.FollowerTurns.{turn_after}
+use Rattle.bank_server.proofs.boards.FollowerTurns.{turn_after}
 use Rattle.bank_server.proofs.followers.follower.handle_rest.Goals as goal
 
 pub loop-init : goal.loop-init

@@ -4,7 +4,7 @@ use Rattle.sb_rows.proofs.SplitAtFirstByte.{lines-nil}
 use Rattle.sb_rows.specs.Text.{lines}
 use Rattle.bank_server.specs.AskResults.{LinesGiveStandings}
 use Rattle.bank_server.specs.Input.{asks_from}
-use Rattle.bank_server.proofs.AskedLines.{asks_from-end, log_of_asks-nil}
+use Rattle.bank_server.proofs.lines.AskedLines.{asks_from-end, log_of_asks-nil}
 use Rattle.bank_server.proofs.input.asking.ask_all.Goals as goal
 
 pub loop-left-init : goal.loop-left-init

@@ -3,7 +3,7 @@ use Rattle.std.proofs.lemmas.List.{take_more}
 use Rattle.sb_calls.specs.Ask.{IsKey}
 use Rattle.sb_calls.specs.declared.ask.AskLine.{AskLine}
 use Rattle.bank_server.specs.inner.AskSteps.{HasStandings}
-use Rattle.bank_server.proofs.AskedLines.{after_push, standings_push, running_after_le}
+use Rattle.bank_server.proofs.lines.AskedLines.{after_push, standings_push, running_after_le}
 use Rattle.bank_server.proofs.input.asking.ask_batch.Goals as goal
 
 pub loop-asked-preserved : goal.loop-asked-preserved

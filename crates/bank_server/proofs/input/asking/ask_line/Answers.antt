@@ -2,7 +2,7 @@ use Rattle.std.proofs.Common.{subst}
 use Rattle.sb_calls.specs.declared.ask.Key.{Key}
 use Rattle.bank_server.specs.Asks.{asks_with_keys}
 use Rattle.bank_server.specs.inner.AskSteps.{AddsAsk}
-use Rattle.bank_server.proofs.AnswerStandings.{asks_past_requests}
+use Rattle.bank_server.proofs.lines.AnswerStandings.{asks_past_requests}
 use Rattle.bank_server.proofs.input.asking.ask_line.Goals as goal
 
 pub returns-in_ok-ask-in-Some-clause-asked : goal.returns-in_ok-ask-in-Some-clause-asked

@@ -7,7 +7,7 @@ use Rattle.sb_rows.proofs.SplitAtFirstByte.{lines-nil}
 use Rattle.sb_rows.specs.Text.{lines}
 use Rattle.bank_server.specs.Input.{asks_from, in_call}
 use Rattle.bank_server.specs.declared.fault.InputFault.TheVariants as faults
-use Rattle.bank_server.proofs.AskedLines.{asked_is_valid, asks_from-line, asks_from-fault, fault_is_asked, pushed_is_asked}
+use Rattle.bank_server.proofs.lines.AskedLines.{asked_is_valid, asks_from-line, asks_from-fault, fault_is_asked, pushed_is_asked}
 use Rattle.bank_server.proofs.input.asking.read_batch.Goals as goal
 
 pub returns-in_default-clause-read : goal.returns-in_default-clause-read

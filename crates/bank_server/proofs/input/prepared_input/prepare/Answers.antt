@@ -6,8 +6,8 @@ use Rattle.sb_rows.specs.Text.{lines}
 use Rattle.bank_server.specs.AskResults.{LinesGiveStandings}
 use Rattle.bank_server.specs.Faults.{IsTextFaultOf}
 use Rattle.bank_server.specs.Input.{asks_from, in_call}
-use Rattle.bank_server.proofs.Runs.{prepared_at}
-use Rattle.bank_server.proofs.WholeOutput.{asked_stand, fault_of_asks, fault_of_opening, output_is}
+use Rattle.bank_server.proofs.boards.Runs.{prepared_at}
+use Rattle.bank_server.proofs.lines.WholeOutput.{asked_stand, fault_of_asks, fault_of_opening, output_is}
 use Rattle.bank_server.proofs.input.prepared_input.prepare.Goals as goal
 
 pub returns-in_err-opening : goal.returns-in_err-opening

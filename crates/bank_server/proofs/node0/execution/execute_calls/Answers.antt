@@ -2,7 +2,7 @@ use Rattle.std.proofs.Common.{map, ap, ◌∙◌, ◌++◌}
 use Rattle.std.proofs.lemmas.Result.{on_ok_weaker}
 use Rattle.sb_calls.specs.Op.{op_of}
 use Rattle.sb_replica.specs.Replica.{ReplicaOf, RestOf}
-use Rattle.bank_server.proofs.Boards.{runs_log}
+use Rattle.bank_server.proofs.boards.Boards.{runs_log}
 use Rattle.bank_server.proofs.node0.execution.execute_calls.Goals as goal
 
 pub returns-clause-run : goal.returns-clause-run

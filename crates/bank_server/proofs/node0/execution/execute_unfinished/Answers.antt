@@ -1,4 +1,4 @@
-use Rattle.bank_server.proofs.Boards.{idle_none_out}
+use Rattle.bank_server.proofs.boards.Boards.{idle_none_out}
 use Rattle.bank_server.proofs.node0.execution.execute_unfinished.Goals as goal
 
 pub returns-in-Ok-clause-none_out : goal.returns-in-Ok-clause-none_out

@@ -6,7 +6,7 @@ use Rattle.sb_calls.specs.Op.{op_of}
 use Rattle.sb_calls.specs.declared.call.Call.{Call}
 use Rattle.sb_calls.specs.declared.op.Op.{Op}
 use Rattle.sb_replica.specs.Replica.{RestOf}
-use Rattle.bank_server.proofs.LogOps.{fault_behind}
+use Rattle.bank_server.proofs.boards.LogOps.{fault_behind}
 use Rattle.bank_server.proofs.node0.execution.submit_parts.Goals as goal
 
 -- one more part is looked up and submitted

@@ -4,8 +4,8 @@ use Rattle.bank_server.specs.Clients.{ClientOf, Piece, piece_of}
 use Rattle.bank_server.specs.Primary.{opening_rows_of}
 use Rattle.bank_server.specs.declared.session.session_fault.SessionFault.TheVariants.{Device}
 use Rattle.bank_server.specs.inner.ClientTurns.{HearsClient}
-use Rattle.bank_server.proofs.ClientTurns.{hears_deaf, hears_ending, hears_failure}
-use Rattle.bank_server.proofs.Keeping.{numbers_nothing}
+use Rattle.bank_server.proofs.clients.ClientTurns.{hears_deaf, hears_ending, hears_failure}
+use Rattle.bank_server.proofs.sessions.Keeping.{numbers_nothing}
 use Rattle.bank_server.proofs.session.client.hear.Goals as goal
 
 pub returns-then-is_some-clause-heard : goal.returns-then-is_some-clause-heard

@@ -5,7 +5,7 @@ use Rattle.bank_server.specs.inner.ClientSteps.{StopsClient}
 use Rattle.bank_server.specs.inner.ClientTurns.{HearsClient, state_of_client}
 use Rattle.bank_server.specs.declared.session.TheConstants.{ASKS_BEFORE_FLUSH}
 use Rattle.bank_server.specs.declared.session.session_fault.SessionFault.{SessionFault}
-use Rattle.bank_server.proofs.ClientTurns.{has_bytes, hears_fault, hears_well, none_on}
+use Rattle.bank_server.proofs.clients.ClientTurns.{has_bytes, hears_fault, hears_well, none_on}
 use Rattle.bank_server.proofs.session.client.hear_bytes.Goals as goal
 
 pub returns-in-Ok-clause-heard : goal.returns-in-Ok-clause-heard

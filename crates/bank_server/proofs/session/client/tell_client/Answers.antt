@@ -5,7 +5,7 @@ use Rattle.bank_server.specs.Primary.{opening_rows_of}
 use Rattle.bank_server.specs.declared.session.TheConstants.{UNREAD_BYTES}
 use Rattle.bank_server.specs.declared.session.session_fault.SessionFault.TheVariants.{Device}
 use Rattle.bank_server.specs.inner.ClientTurns.{TellsClient}
-use Rattle.bank_server.proofs.ClientTurns.{tells_client}
+use Rattle.bank_server.proofs.clients.ClientTurns.{tells_client}
 use Rattle.bank_server.proofs.session.client.tell_client.Goals as goal
 
 pub returns-clause-told : goal.returns-clause-told

@@ -1,15 +1,17 @@
 use Rattle.std.proofs.Common.{◌≡◌, [], ℕ, List, refl, sym, subst, ◌∙◌}
 use Rattle.std.specs.Prelude.{IfSome, slice_get}
+use Rattle.std.proofs.lemmas.Result.{err_from_is_err_and}
 use Rattle.sb_calls.specs.declared.ask.Key.{Key}
 use Rattle.sb_calls.specs.declared.call.Call.{Call}
 use Rattle.sb_rows.specs.Rows.{Rows}
 use Rattle.bank_server.specs.Clients.{AreCalmBut, IsServed, ServesTurn}
 use Rattle.bank_server.specs.Primary.{PreservesBank, opening_rows_of}
 use Rattle.bank_server.specs.inner.ClientTurns.{AreDueWithin, IsServing, TellsClients}
-use Rattle.bank_server.proofs.ClientLists.{turn_served}
-use Rattle.bank_server.proofs.FrameSteps.{keeps_on}
-use Rattle.bank_server.proofs.Stirs.{all_ready, due_within, none_due_now, none_if_empty}
-use Rattle.bank_server.proofs.WholeReplies.{ok_always, same_opening}
+use Rattle.bank_server.proofs.clients.ClientLists.{turn_served}
+use Rattle.bank_server.proofs.sessions.FrameSteps.{keeps_on}
+use Rattle.bank_server.proofs.sessions.Serving.{serves_numbered, serves_still}
+use Rattle.bank_server.proofs.clients.Stirs.{all_ready, due_within, none_due_now, none_if_empty}
+use Rattle.bank_server.proofs.boards.WholeReplies.{ok_always, same_opening}
 use Rattle.bank_server.proofs.session.clients.serve_turn.Goals as goal
 
 pub returns-then-is_empty-clause-served : goal.returns-then-is_empty-clause-served
@@ -31,21 +33,36 @@ returns-then-is_empty-clause-served g c =
     ok_always c.offer_rest.result (subst (λ (l : List (Key × Call)). ServesTurn (IsServed opening) (g.A.Arrivals.coming c.args.arrivals.now)
     (g.A.Arrivals.coming mid.arrivals) old.log c.args.clients.now l mid.clients) (sym c.offer_rest.ensures.log) turn)
 
-pub returns-then-is_empty-clause-bank : goal.returns-then-is_empty-clause-bank
-returns-then-is_empty-clause-bank g c =
-    keeps_on c.args.primary.now c.take_arrivals.new.primary c.offer_rest.new.self c.take_arrivals.ensures.numbered.bank c.offer_rest.ensures.bank
+pub returns-in_err-take_arrivals-clause-serves : goal.returns-in_err-take_arrivals-clause-serves
+returns-in_err-take_arrivals-clause-serves g c =
+    let p = err_from_is_err_and c.from_residual.result c.from_residual.ensures.1 in
+    let old = c.args.primary.now in
+    rw (p.1, p.2) (serves_numbered _ old c.take_arrivals.new.primary c.take_arrivals.new.primary c.take_arrivals.ensures.numbered
+    (serves_still _ c.take_arrivals.new.primary tt tt))
 
-pub returns-in_err-settle_and_keep-clause-bank : goal.returns-in_err-settle_and_keep-clause-bank
-returns-in_err-settle_and_keep-clause-bank g c =
-    keeps_on c.args.primary.now c.take_arrivals.new.primary c.settle_and_keep.new.primary c.take_arrivals.ensures.numbered.bank c.settle_and_keep.ensures.bank
+pub returns-then-is_empty-clause-serves : goal.returns-then-is_empty-clause-serves
+returns-then-is_empty-clause-serves g c =
+    serves_numbered c.offer_rest.result c.args.primary.now c.take_arrivals.new.primary c.offer_rest.new.self c.take_arrivals.ensures.numbered
+    c.offer_rest.ensures.serves
 
-pub returns-in_err-tell_all-clause-bank : goal.returns-in_err-tell_all-clause-bank
-returns-in_err-tell_all-clause-bank g c =
-    keeps_on c.args.primary.now c.take_arrivals.new.primary c.settle_and_keep.new.primary c.take_arrivals.ensures.numbered.bank c.settle_and_keep.ensures.bank
+pub returns-in_err-settle_and_keep-clause-serves : goal.returns-in_err-settle_and_keep-clause-serves
+returns-in_err-settle_and_keep-clause-serves g c =
+    let p = err_from_is_err_and c.from_residual-in_err-settle_and_keep.result c.from_residual-in_err-settle_and_keep.ensures.1 in
+    rw (p.1, p.2) (serves_numbered _ c.args.primary.now c.take_arrivals.new.primary c.settle_and_keep.new.primary c.take_arrivals.ensures.numbered
+    c.in_err-settle_and_keep.ensures.serves)
 
-pub returns-clause-bank : goal.returns-clause-bank
-returns-clause-bank g c =
-    keeps_on c.args.primary.now c.take_arrivals.new.primary c.settle_and_keep.new.primary c.take_arrivals.ensures.numbered.bank c.settle_and_keep.ensures.bank
+pub returns-in_err-tell_all-clause-serves : goal.returns-in_err-tell_all-clause-serves
+returns-in_err-tell_all-clause-serves g c =
+    let p = err_from_is_err_and c.from_residual-in_err-tell_all.result c.from_residual-in_err-tell_all.ensures.1 in
+    let step = serves_numbered c.settle_and_keep.result c.args.primary.now c.take_arrivals.new.primary c.settle_and_keep.new.primary
+    c.take_arrivals.ensures.numbered c.settle_and_keep.ensures.serves in
+    rw (p.1, p.2) (record { bank = step.bank; none_out = step.none_out; crew_lost = tt; log_lost = tt })
+
+pub returns-clause-serves : goal.returns-clause-serves
+returns-clause-serves g c =
+    let step = serves_numbered c.settle_and_keep.result c.args.primary.now c.take_arrivals.new.primary c.settle_and_keep.new.primary
+    c.take_arrivals.ensures.numbered c.settle_and_keep.ensures.serves in
+    record { bank = step.bank; none_out = step.none_out; crew_lost = tt; log_lost = tt }
 
 pub returns-clause-ready : goal.returns-clause-ready
 returns-clause-ready g c =
@@ -66,7 +83,7 @@ returns-clause-served g c =
     let new = c.settle_and_keep.new.primary in
     let told = c.in_ok-tell_all.ensures in
     let bank : PreservesBank g.K.Keeper.Keeps g.K.Keeper.opening g.K.Keeper.has_failed old new =
-    keeps_on old mid.primary new c.take_arrivals.ensures.numbered.bank c.settle_and_keep.ensures.bank in
+    keeps_on old mid.primary new c.take_arrivals.ensures.numbered.bank c.settle_and_keep.ensures.serves.bank in
     let turn : ServesTurn (IsServing opening) (g.A.Arrivals.coming c.args.arrivals.now) (g.A.Arrivals.coming mid.arrivals) old.log c.args.clients.now
     new.log mid.clients =
     subst (λ (l : List (Key × Call)). ServesTurn (IsServing opening) (g.A.Arrivals.coming c.args.arrivals.now) (g.A.Arrivals.coming mid.arrivals) old.log

@@ -1,8 +1,8 @@
 use Rattle.std.proofs.Common.{refl, ap, ◌∙◌, ◌++◌, ◌∷◌, [], List}
 use Rattle.bank_server.specs.Primary.{opening_rows_of}
 use Rattle.bank_server.specs.declared.session.inbox.PendingAsk.{PendingAsk}
-use Rattle.bank_server.proofs.ClientSteps.{ask_leads_client}
-use Rattle.bank_server.proofs.Keeping.{numbers_nothing}
+use Rattle.bank_server.proofs.clients.ClientSteps.{ask_leads_client}
+use Rattle.bank_server.proofs.sessions.Keeping.{numbers_nothing}
 use Rattle.bank_server.proofs.session.inbox.number_ask.Goals as goal
 
 pub returns-clause-leads : goal.returns-clause-leads

@@ -2,8 +2,8 @@ use Rattle.std.proofs.Common.{◌≡◌, ◌++◌, List, ℕ, subst}
 use Rattle.std.specs.Prelude.{IfErr, OnOk}
 use Rattle.bank_server.specs.inner.ClientSteps.{HandlesClient, StopsClient, inbox_state}
 use Rattle.bank_server.specs.Primary.{opening_rows_of}
-use Rattle.bank_server.proofs.ClientSteps.{fed_unread, handles_nothing}
-use Rattle.bank_server.proofs.Keeping.{numbers_nothing}
+use Rattle.bank_server.proofs.clients.ClientSteps.{fed_unread, handles_nothing}
+use Rattle.bank_server.proofs.sessions.Keeping.{numbers_nothing}
 use Rattle.bank_server.proofs.session.inbox.take_bytes.Goals as goal
 
 pub returns-then-is_err-clause-stops : goal.returns-then-is_err-clause-stops

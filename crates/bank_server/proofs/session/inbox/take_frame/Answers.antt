@@ -2,8 +2,8 @@ use Rattle.std.proofs.Common.{rules, ◌≡◌, length, refl, sym, subst, ◌∷
 use Rattle.sb_frames.specs.declared.frame.Frame.{Frame}
 use Rattle.bank_server.specs.inner.ClientSteps.{ClientState, LeadsClient, inbox_state}
 use Rattle.bank_server.specs.Primary.{opening_rows_of}
-use Rattle.bank_server.proofs.ClientSteps.{flush_leads_client}
-use Rattle.bank_server.proofs.Keeping.{numbers_nothing}
+use Rattle.bank_server.proofs.clients.ClientSteps.{flush_leads_client}
+use Rattle.bank_server.proofs.sessions.Keeping.{numbers_nothing}
 use Rattle.bank_server.proofs.session.inbox.take_frame.Goals as goal
 
 pub returns-in-Flush-clause-leads : goal.returns-in-Flush-clause-leads

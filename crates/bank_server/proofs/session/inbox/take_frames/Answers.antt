@@ -8,9 +8,9 @@ use Rattle.sb_frames.specs.declared.frame.Frame.{Frame}
 use Rattle.sb_replica.specs.Replica.{ReplicaOf}
 use Rattle.bank_server.specs.inner.ClientSteps.{LeadsClient, inbox_state}
 use Rattle.bank_server.specs.Primary.{opening_rows_of}
-use Rattle.bank_server.proofs.ClientSteps.{bad_stops_client, handles_frame, handles_nothing, refused_stops_client}
-use Rattle.bank_server.proofs.FrameSteps.{numbers_on}
-use Rattle.bank_server.proofs.Keeping.{numbers_nothing}
+use Rattle.bank_server.proofs.clients.ClientSteps.{bad_stops_client, handles_frame, handles_nothing, refused_stops_client}
+use Rattle.bank_server.proofs.sessions.FrameSteps.{numbers_on}
+use Rattle.bank_server.proofs.sessions.Keeping.{numbers_nothing}
 use Rattle.bank_server.proofs.session.inbox.take_frames.Goals as goal
 
 pub loop-frame-init : goal.loop-frame-init

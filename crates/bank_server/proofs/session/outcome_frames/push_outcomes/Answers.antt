@@ -5,7 +5,7 @@ use Rattle.sb_frames.specs.Grammar.{spelling}
 use Rattle.sb_frames.specs.declared.frame.Frame.TheVariants.{Outcome}
 use Rattle.bank_server.specs.Session.{outcome_by}
 use Rattle.bank_server.specs.declared.session.inbox.PendingAsk.{PendingAsk}
-use Rattle.bank_server.proofs.FlatLists.{flat_map-drop}
+use Rattle.bank_server.proofs.clients.FlatLists.{flat_map-drop}
 use Rattle.bank_server.proofs.session.outcome_frames.push_outcomes.Goals as goal
 
 pub loop-ask-preserved : goal.loop-ask-preserved

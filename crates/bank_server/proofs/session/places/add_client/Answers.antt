@@ -1,6 +1,6 @@
 use Rattle.std.proofs.Common.{◌≡◌, ◌++◌, ◌∷◌, [], List, length, sym, ap, subst, ◌∙◌}
 use Rattle.bank_server.specs.Clients.{ClientOf, StaysReady, StaysServed, fresh_client, no_past, past_with}
-use Rattle.bank_server.proofs.ClientPlaces.{joins_ready, joins_served}
+use Rattle.bank_server.proofs.clients.ClientPlaces.{joins_ready, joins_served}
 use Rattle.bank_server.proofs.session.places.add_client.Goals as goal
 
 pub returns-clause-ready : goal.returns-clause-ready

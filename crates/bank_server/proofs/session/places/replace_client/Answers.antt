@@ -1,7 +1,7 @@
 use Rattle.std.proofs.Common.{sym, subst}
 use Rattle.std.specs.Prelude.{slice_set}
 use Rattle.bank_server.specs.Clients.{ClientOf, StaysReady, StaysServed, no_past, past_with}
-use Rattle.bank_server.proofs.ClientPlaces.{replaces_ready, replaces_served}
+use Rattle.bank_server.proofs.clients.ClientPlaces.{replaces_ready, replaces_served}
 use Rattle.bank_server.proofs.session.places.replace_client.Goals as goal
 
 pub returns-clause-ready : goal.returns-clause-ready

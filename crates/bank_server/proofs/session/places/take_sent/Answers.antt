@@ -2,7 +2,7 @@ use Rattle.std.proofs.Common.{◌≡◌, Some, get_or, sym, subst, take}
 use Rattle.std.specs.Prelude.{IfSome, slice_get, slice_set}
 use Rattle.std.proofs.lemmas.Option.{slice_get-get_or}
 use Rattle.bank_server.specs.Clients.{ClientOf, StaysReady, StaysServed, sends}
-use Rattle.bank_server.proofs.ClientPlaces.{sends_ready, sends_served}
+use Rattle.bank_server.proofs.clients.ClientPlaces.{sends_ready, sends_served}
 use Rattle.bank_server.proofs.session.places.take_sent.Goals as goal
 
 pub returns-clause-ready : goal.returns-clause-ready

@@ -1,6 +1,6 @@
 use Rattle.std.proofs.Common.{◌≡◌, ℕ, Bool, true, false, true≢false, List, [], refl, sym, ◌∙◌, inl, inr}
 use Rattle.std.specs.Prelude.{◌≢◌, ◌⊎◌}
-use Rattle.bank_server.proofs.Keeping.{stays_bank}
+use Rattle.bank_server.proofs.sessions.Serving.{serves_still}
 use Rattle.bank_server.proofs.session.single_session.end.Goals as goal
 
 -- what isn't whole has unread bytes, or failed
@@ -15,5 +15,5 @@ returns-then-not-ended-clause-fault g c = (
       (λ whole. true≢false (sym (c.ended.ensures.1 whole) ∙ c.if-not-ended.true)),
 )
 
-pub returns-then-not-ended-clause-bank : goal.returns-then-not-ended-clause-bank
-returns-then-not-ended-clause-bank g c = stays_bank c.args.primary.now
+pub returns-then-not-ended-clause-serves : goal.returns-then-not-ended-clause-serves
+returns-then-not-ended-clause-serves g c = serves_still _ c.args.primary.now tt tt

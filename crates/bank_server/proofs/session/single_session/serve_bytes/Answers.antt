@@ -1,17 +1,15 @@
-use Rattle.std.proofs.Common.{◌≡◌, false, [], List, ◌∙◌, refl, sym, ap, subst}
+use Rattle.std.proofs.Common.{[], List, ◌∙◌, refl, sym, ap, subst}
 use Rattle.std.proofs.lemmas.Result.{err_from_is_err_and, on_ok_weaker}
 use Rattle.sb_rows.specs.Rows.{Rows}
 use Rattle.sb_calls.specs.declared.ask.Key.{Key}
 use Rattle.sb_calls.specs.declared.call.Call.{Call}
 use Rattle.sb_frames.specs.Streaming.{StreamState}
-use Rattle.sb_replica.specs.Replica.{ReplicaOf}
-use Rattle.cown_workers.specs.Draining.{HasNoneOut}
 use Rattle.bank_server.specs.Primary.{opening_rows_of}
 use Rattle.bank_server.specs.inner.SessionSteps.{LeadsSession, WritesDue, session_state}
 use Rattle.bank_server.specs.declared.session.TheConstants.{ASKS_OF_SESSION}
-use Rattle.bank_server.proofs.FrameSteps.{keeps_on, loses_behind}
-use Rattle.bank_server.proofs.Sessions.{crew_stays, flush_of_settle, leads_session, log_stays, stopped_after, stopped_by}
-use Rattle.bank_server.proofs.WholeReplies.{if_err, ok_always, same_opening}
+use Rattle.bank_server.proofs.sessions.Serving.{serves_behind, serves_numbered}
+use Rattle.bank_server.proofs.sessions.Sessions.{crew_stays, flush_of_settle, leads_session, log_stays, stopped_after, stopped_by}
+use Rattle.bank_server.proofs.boards.WholeReplies.{if_err, ok_always, same_opening}
 use Rattle.bank_server.proofs.session.single_session.serve_bytes.Goals as goal
 
 pub returns-in_err-write_due-clause-stops : goal.returns-in_err-write_due-clause-stops
@@ -29,9 +27,11 @@ returns-in_err-write_due-clause-stops g c =
     (on_ok_weaker taken (λ handles. handles []) c.take_bytes-taken.ensures.handles)
     (if_err taken (λ own stops. stops []) c.take_bytes-taken.ensures.stops) refl c.in_err-write_due.ensures.fault c.write_due.ensures.log)
 
-pub returns-in_err-write_due-clause-bank : goal.returns-in_err-write_due-clause-bank
-returns-in_err-write_due-clause-bank g c =
-    keeps_on c.args.primary.now c.take_bytes-taken.new.primary c.write_due.new.primary c.take_bytes-taken.ensures.numbered.bank c.write_due.ensures.bank
+pub returns-in_err-write_due-clause-serves : goal.returns-in_err-write_due-clause-serves
+returns-in_err-write_due-clause-serves g c =
+    let p = err_from_is_err_and c.from_residual.result c.from_residual.ensures.1 in
+    rw (p.1, p.2) (serves_numbered _ c.args.primary.now c.take_bytes-taken.new.primary c.write_due.new.primary c.take_bytes-taken.ensures.numbered
+    c.in_err-write_due.ensures.serves)
 
 pub returns-in_err-taken-clause-stops : goal.returns-in_err-taken-clause-stops
 returns-in_err-taken-clause-stops g c =
@@ -82,32 +82,24 @@ returns-clause-stops g c =
     (if_err c.take_bytes-taken.result (λ own stops. stops []) c.take_bytes-taken.ensures.stops) refl (flush_of_settle fault is)
     (c.offer_rest.ensures.log ∙ c.write_due.ensures.log)) c.offer_rest.ensures.fault
 
-pub returns-in_err-taken-clause-bank : goal.returns-in_err-taken-clause-bank
-returns-in_err-taken-clause-bank g c =
-    keeps_on c.args.primary.now c.take_bytes-taken.new.primary c.write_due.new.primary c.take_bytes-taken.ensures.numbered.bank c.write_due.ensures.bank
-
-pub returns-clause-bank : goal.returns-clause-bank
-returns-clause-bank g c =
-    keeps_on c.args.primary.now c.take_bytes-taken.new.primary c.offer_rest.new.self c.take_bytes-taken.ensures.numbered.bank
-    (keeps_on c.take_bytes-taken.new.primary c.write_due.new.primary c.offer_rest.new.self c.write_due.ensures.bank c.offer_rest.ensures.bank)
-
-pub returns-in_err-taken-clause-crew_lost : goal.returns-in_err-taken-clause-crew_lost
-returns-in_err-taken-clause-crew_lost g c =
+pub returns-in_err-taken-clause-serves : goal.returns-in_err-taken-clause-serves
+returns-in_err-taken-clause-serves g c =
     let p = err_from_is_err_and c.from_residual-in_err-taken.result c.from_residual-in_err-taken.ensures.1 in
-    rw (p.1, p.2) (crew_stays g.C.Crew.keeps c.args.primary.now.node.board ASKS_OF_SESSION c.in_err-taken.field-0.0 _
-    (c.in_err-taken.ensures.stops []).of_frames)
-
-pub returns-in_err-taken-clause-log_lost : goal.returns-in_err-taken-clause-log_lost
-returns-in_err-taken-clause-log_lost g c =
-    let p = err_from_is_err_and c.from_residual-in_err-taken.result c.from_residual-in_err-taken.ensures.1 in
-    rw (p.1, p.2) (log_stays g.K.Keeper.fails (g.K.Keeper.has_failed c.write_due.new.primary.keeper) ASKS_OF_SESSION c.in_err-taken.field-0.0 _
-    (c.in_err-taken.ensures.stops []).of_frames)
-
-pub returns-clause-crew_lost : goal.returns-clause-crew_lost
-returns-clause-crew_lost g c =
     let old = c.args.primary.now in
     let due = c.write_due.new.primary in
-    let none_out : g.C.Crew.keeps ≡ false → HasNoneOut old.node.board → HasNoneOut due.node.board =
-    λ e none. c.write_due.ensures.none_out e
-    (subst (λ (node : ReplicaOf g.row.S.Denot). HasNoneOut node.board) (sym c.take_bytes-taken.ensures.numbered.node) none) in
-    if_err c.offer_rest.result (λ fault. loses_behind g.C.Crew.keeps old.node.board due.node.board fault none_out) c.offer_rest.ensures.crew_lost
+    let fault = c.in_err-taken.field-0.0 in
+    let stops = c.in_err-taken.ensures.stops [] in
+    let step = serves_numbered c.write_due.result old c.take_bytes-taken.new.primary due c.take_bytes-taken.ensures.numbered c.write_due.ensures.serves in
+    record {
+      bank = step.bank;
+      none_out = step.none_out;
+      crew_lost = rw (p.1, p.2) (crew_stays g.C.Crew.keeps old.node.board ASKS_OF_SESSION fault _ stops.of_frames);
+      log_lost = rw (p.1, p.2) (log_stays g.K.Keeper.fails (g.K.Keeper.has_failed due.keeper) ASKS_OF_SESSION fault _ stops.of_frames);
+    }
+
+pub returns-clause-serves : goal.returns-clause-serves
+returns-clause-serves g c =
+    let old = c.args.primary.now in
+    let due = c.write_due.new.primary in
+    let step = serves_numbered c.write_due.result old c.take_bytes-taken.new.primary due c.take_bytes-taken.ensures.numbered c.write_due.ensures.serves in
+    serves_behind c.offer_rest.result old due c.offer_rest.new.self step.bank step.none_out c.offer_rest.ensures.serves

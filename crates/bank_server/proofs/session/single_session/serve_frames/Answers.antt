@@ -13,10 +13,10 @@ use Rattle.bank_server.specs.inner.SessionSteps.{HearsSession, LeadsSession, Ses
 use Rattle.bank_server.specs.declared.session.TheConstants.{ASKS_OF_SESSION}
 use Rattle.bank_server.specs.declared.session.session_fault.SessionFault.TheVariants.{Device}
 use Rattle.bank_server.specs.declared.session.inbox.PendingAsk.{PendingAsk}
-use Rattle.bank_server.proofs.Boards.{idle_none_out}
-use Rattle.bank_server.proofs.FrameSteps.{keeps_on, loses_behind, nothing_short}
-use Rattle.bank_server.proofs.Sessions.{consumes_empty, consumes_nothing, ended_at_last, ended_by, flush_of_settle, heard_nothing, of_front, of_whole, served}
-use Rattle.bank_server.proofs.WholeReplies.{if_err, same_opening}
+use Rattle.bank_server.proofs.sessions.FrameSteps.{keeps_on, nothing_short}
+use Rattle.bank_server.proofs.sessions.Serving.{serves_behind}
+use Rattle.bank_server.proofs.sessions.Sessions.{consumes_empty, consumes_nothing, ended_at_last, ended_by, flush_of_settle, heard_nothing, of_front, of_whole, served}
+use Rattle.bank_server.proofs.boards.WholeReplies.{if_err, same_opening}
 use Rattle.bank_server.proofs.session.single_session.serve_frames.Goals as goal
 use Rattle.bank_server.proofs.session.single_session.serve_frames.Goals.{in-Ok+in_ok-serve_bytes-in-Ok, in-Err+else-ne}
 
@@ -63,8 +63,8 @@ loop-init g c =
           c.new-inbox.ensures.pending (All-nil (λ (ask : PendingAsk). IsStandingWithin (length c.settle.new.self.log) ask.standing));
       none_due = c.new-inbox.ensures.due;
       few = subst (λ (l : List PendingAsk). length l ≤ ASKS_OF_SESSION) (sym c.new-inbox.ensures.pending) (omega arith);
-      bank = settled.bank;
-      none_out = λ e none. idle_none_out c.settle.new.self.node.board settled.whole_log.idle;
+      bank = settled.serves.bank;
+      none_out = settled.serves.none_out;
     }
 
 pub returns-in-Ok-eq0-clause-served : goal.returns-in-Ok-eq0-clause-served
@@ -104,20 +104,10 @@ returns-in-Ok-eq0-clause-cut_short g c =
     (ap (λ n. record at.client { due = n }) kept.none_due) c.end.ensures.log))
     c.end.ensures.fault
 
-pub returns-in-Ok-eq0-clause-crew_lost : goal.returns-in-Ok-eq0-clause-crew_lost
-returns-in-Ok-eq0-clause-crew_lost g c =
+pub returns-in-Ok-eq0-clause-serves : goal.returns-in-Ok-eq0-clause-serves
+returns-in-Ok-eq0-clause-serves g c =
     let kept = c.loop.invariant in
-    if_err c.end.result (λ fault. loses_behind g.C.Crew.keeps c.args.primary.now.node.board
-    c.loop.primary.node.board fault kept.none_out) c.end.ensures.crew_lost
-
-pub returns-in-Ok-eq0-clause-none_out : goal.returns-in-Ok-eq0-clause-none_out
-returns-in-Ok-eq0-clause-none_out g c = λ e none. c.end.ensures.none_out e (c.loop.invariant.none_out e none)
-
-pub returns-in-Ok-eq0-clause-bank : goal.returns-in-Ok-eq0-clause-bank
-returns-in-Ok-eq0-clause-bank g c = keeps_on c.args.primary.now c.loop.primary c.end.new.primary c.loop.invariant.bank c.end.ensures.bank
-
-pub returns-in_err-serve_bytes-in-Ok-clause-none_out : goal.returns-in_err-serve_bytes-in-Ok-clause-none_out
-returns-in_err-serve_bytes-in-Ok-clause-none_out g c = λ e none. c.serve_bytes.ensures.none_out e (c.loop.invariant.none_out e none)
+    serves_behind c.end.result c.args.primary.now c.loop.primary c.end.new.primary kept.bank kept.none_out c.end.ensures.serves
 
 pub returns-in_err-serve_bytes-in-Ok-clause-cut_short : goal.returns-in_err-serve_bytes-in-Ok-clause-cut_short
 returns-in_err-serve_bytes-in-Ok-clause-cut_short g c =
@@ -140,16 +130,12 @@ returns-in_err-serve_bytes-in-Ok-clause-cut_short g c =
     (Consumes-trans given (g.R.Read.remaining c.loop.reader) left kept.bytes chunk kept.read c.in-Ok.ensures.bytes.0)
     (λ behind. stops old.log start kept.bytes behind kept.heard))
 
-pub returns-in_err-serve_bytes-in-Ok-clause-crew_lost : goal.returns-in_err-serve_bytes-in-Ok-clause-crew_lost
-returns-in_err-serve_bytes-in-Ok-clause-crew_lost g c =
+pub returns-in_err-serve_bytes-in-Ok-clause-serves : goal.returns-in_err-serve_bytes-in-Ok-clause-serves
+returns-in_err-serve_bytes-in-Ok-clause-serves g c =
     let p = err_from_is_err_and c.from_residual-in_err-serve_bytes-in-Ok.result c.from_residual-in_err-serve_bytes-in-Ok.ensures.1 in
     let kept = c.loop.invariant in
-    rw (p.1, p.2) (loses_behind g.C.Crew.keeps c.args.primary.now.node.board
-    c.loop.primary.node.board c.in_err-serve_bytes-in-Ok.field-0.0 kept.none_out c.in_err-serve_bytes-in-Ok.ensures.crew_lost)
-
-pub returns-in_err-serve_bytes-in-Ok-clause-bank : goal.returns-in_err-serve_bytes-in-Ok-clause-bank
-returns-in_err-serve_bytes-in-Ok-clause-bank g c =
-    keeps_on c.args.primary.now c.loop.primary c.serve_bytes.new.primary c.loop.invariant.bank c.serve_bytes.ensures.bank
+    rw (p.1, p.2) (serves_behind _ c.args.primary.now c.loop.primary c.serve_bytes.new.primary kept.bank kept.none_out
+    c.in_err-serve_bytes-in-Ok.ensures.serves)
 
 pub returns-then-ne-clause-cut_short : goal.returns-then-ne-clause-cut_short
 returns-then-ne-clause-cut_short g c =
@@ -201,8 +187,8 @@ loop-preserved g c =
             within = step.within;
             none_due = step.none_due;
             few = step.few;
-            bank = keeps_on old c.loop.primary w.serve_bytes.new.primary kept.bank step.bank;
-            none_out = λ e none. w.serve_bytes.ensures.none_out e (kept.none_out e none);
+            bank = keeps_on old c.loop.primary w.serve_bytes.new.primary kept.bank step.serves.bank;
+            none_out = λ e none. step.serves.none_out e (kept.none_out e none);
           })
       | in-Err+else-ne w ↦
           rw (w.writer-is, w.primary-is, w.inbox-is) (record {

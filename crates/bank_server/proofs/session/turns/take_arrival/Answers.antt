@@ -3,9 +3,9 @@ use Rattle.std.specs.Prelude.{get_or, slice_get, slice_set}
 use Rattle.std.proofs.lemmas.Option.{slice_get-get_or}
 use Rattle.bank_server.specs.Clients.{AreCalmBut, piece_of}
 use Rattle.bank_server.specs.Primary.{opening_rows_of}
-use Rattle.bank_server.proofs.ClientLists.{takes_absent, takes_one}
-use Rattle.bank_server.proofs.Keeping.{numbers_nothing}
-use Rattle.bank_server.proofs.Stirs.{calm_but_one, calm_still}
+use Rattle.bank_server.proofs.clients.ClientLists.{takes_absent, takes_one}
+use Rattle.bank_server.proofs.sessions.Keeping.{numbers_nothing}
+use Rattle.bank_server.proofs.clients.Stirs.{calm_but_one, calm_still}
 use Rattle.bank_server.proofs.session.turns.take_arrival.Goals as goal
 
 pub returns-then-arrival-clients-clause-taken : goal.returns-then-arrival-clients-clause-taken

@@ -5,10 +5,10 @@ use Rattle.sb_rows.specs.Rows.{rows_of}
 use Rattle.bank_server.specs.Clients.{AreCalmBut, Piece, TakesArrivals, piece_of}
 use Rattle.bank_server.specs.Primary.{opening_rows_of}
 use Rattle.bank_server.specs.inner.ClientTurns.{IsServing}
-use Rattle.bank_server.proofs.ClientLists.{turn_begins, turn_on}
-use Rattle.bank_server.proofs.FrameSteps.{numbers_on}
-use Rattle.bank_server.proofs.Keeping.{numbers_nothing}
-use Rattle.bank_server.proofs.Stirs.{calm_at_first}
+use Rattle.bank_server.proofs.clients.ClientLists.{turn_begins, turn_on}
+use Rattle.bank_server.proofs.sessions.FrameSteps.{numbers_on}
+use Rattle.bank_server.proofs.sessions.Keeping.{numbers_nothing}
+use Rattle.bank_server.proofs.clients.Stirs.{calm_at_first}
 use Rattle.bank_server.proofs.session.turns.take_arrivals.Goals as goal
 
 pub loop-init : goal.loop-init

@@ -5,8 +5,8 @@ use Rattle.std.proofs.lemmas.List.{length-set}
 use Rattle.std.proofs.lemmas.Option.{slice_get-get_or}
 use Rattle.bank_server.specs.Clients.{ClientOf, IsSound}
 use Rattle.bank_server.specs.Primary.{opening_rows_of}
-use Rattle.bank_server.proofs.ClientLists.{tells_one}
-use Rattle.bank_server.proofs.Stirs.{calm_anyway, due_after_one, is_stirred}
+use Rattle.bank_server.proofs.clients.ClientLists.{tells_one}
+use Rattle.bank_server.proofs.clients.Stirs.{calm_anyway, due_after_one, is_stirred}
 use Rattle.bank_server.proofs.session.turns.tell_all.Goals as goal
 
 pub loop-slot-preserved : goal.loop-slot-preserved

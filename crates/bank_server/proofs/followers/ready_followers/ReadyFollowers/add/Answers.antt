@@ -5,7 +5,7 @@ use Rattle.sb_rows.specs.Balances.{Balances, IsBalances}
 use Rattle.sb_calls.specs.Behaviour.{declared_cowns, effect_of}
 use Rattle.cown_board.specs.Board.{unfinished_of, IsAfterAll}
 use Rattle.bank_server.specs.Followers.{IsAtOpening}
-use Rattle.bank_server.proofs.Openings.{opened_columns}
+use Rattle.bank_server.proofs.boards.Openings.{opened_columns}
 use Rattle.bank_server.proofs.followers.ready_followers.ReadyFollowers.add.Goals as goal
 
 -- what is seen of a list is longer by what is seen of its new item

@@ -4,8 +4,8 @@ use Rattle.sb_calls.specs.declared.call.Call.{Call}
 use Rattle.sb_sequencer.specs.Sequencer.{SequencerOf}
 use Rattle.bank_server.specs.inner.AskSteps.{ExtendsLog}
 use Rattle.bank_server.specs.Primary.{PrimaryOf}
-use Rattle.bank_server.proofs.AnswerStandings.{asks_one}
-use Rattle.bank_server.proofs.Keeping.{extends_by_answer, numbers_by}
+use Rattle.bank_server.proofs.lines.AnswerStandings.{asks_one}
+use Rattle.bank_server.proofs.sessions.Keeping.{extends_by_answer, numbers_by}
 use Rattle.bank_server.proofs.node0.primary.Primary.ask.Goals as goal
 use Rattle.bank_server.proofs.node0.primary.Primary.ask.Goals.{in-Some, in-None}
 

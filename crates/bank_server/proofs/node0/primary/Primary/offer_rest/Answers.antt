@@ -3,49 +3,52 @@ use Rattle.std.specs.Prelude.{slice_get}
 use Rattle.std.specs.Option.{option_copied}
 use Rattle.std.proofs.lemmas.Result.{err_from_is_err_and}
 use Rattle.sb_calls.specs.Op.{op_of}
+use Rattle.cown_workers.specs.Draining.{HasNoneOut}
 use Rattle.sb_replica.specs.Replica.{ReplicaOf, rest_of}
 use Rattle.sb_sequencer.specs.Numbering.{call_of_number}
 use Rattle.sb_sequencer.specs.Sequencer.{SequencerOf}
 use Rattle.bank_server.specs.Faults.{IsExecutionFault}
 use Rattle.bank_server.specs.Primary.{log_ops}
 use Rattle.bank_server.specs.inner.Appends.{AppendsOps}
-use Rattle.bank_server.proofs.Keeping.{kept_bank}
-use Rattle.bank_server.proofs.LogOps.{fault_behind, kept_by_one, loses_crew, op_here}
+use Rattle.bank_server.proofs.sessions.Keeping.{kept_bank}
+use Rattle.bank_server.proofs.boards.LogOps.{fault_behind, kept_by_one, loses_crew, loses_no_log, op_here}
 use Rattle.bank_server.proofs.node0.primary.Primary.offer_rest.Goals as goal
 
-pub returns-in_err-submit-clause-bank : goal.returns-in_err-submit-clause-bank
-returns-in_err-submit-clause-bank g c =
+pub returns-in_err-submit_op-clause-serves : goal.returns-in_err-submit_op-clause-serves
+returns-in_err-submit_op-clause-serves g c =
+    let p = err_from_is_err_and c.from_residual.result c.from_residual.ensures.1 in
     let loop = c.loop-number in
     let kept = loop.invariant in
-    let there : c.deref_mut.result.now ≡ loop.self-inside.node.value = c.deref_mut.ensures.value in
-    kept_bank c.args.self.now (record { log = loop.self-inside.log.value.log; node = c.submit.new.replica; keeper = loop.self-inside.keeper })
-    (c.submit.ensures.rest ∙ ap (λ (r : ReplicaOf g.row.S.Denot). rest_of r) there ∙ kept.beside)
-    (c.in_err-submit.ensures.err.opening ∙ ap (λ (r : ReplicaOf g.row.S.Denot). r.board.opening) there ∙ kept.opening)
-    kept.keeper kept.log
-
-pub returns-in_err-submit-clause-crew_lost : goal.returns-in_err-submit-clause-crew_lost
-returns-in_err-submit-clause-crew_lost g c =
-    let p = err_from_is_err_and c.from_residual.result c.from_residual.ensures.1 in
-    let fault = c.in_err-submit.field-0.0 in
+    let keeps = g.C.Crew.keeps in
+    let fault = c.in_err-submit_op.field-0.0 in
     let old = c.args.self.now.node.board in
-    let at : ReplicaOf g.row.S.Denot = c.loop-number.self-inside.node.value in
+    let at : ReplicaOf g.row.S.Denot = loop.self-inside.node.value in
     let there : c.deref_mut.result.now ≡ at = c.deref_mut.ensures.value in
-    rw (p.1, p.2) (loses_crew g.C.Crew.keeps old fault (fault_behind g.C.Crew.keeps old at.board fault c.loop-number.invariant.none_out
-    (subst (λ (r : ReplicaOf g.row.S.Denot). IsExecutionFault g.C.Crew.keeps r.board fault) there c.in_err-submit.ensures.fault)))
+    record {
+      bank = kept_bank c.args.self.now (record { log = loop.self-inside.log.value.log; node = c.submit_op.new.replica; keeper = loop.self-inside.keeper })
+          (c.submit_op.ensures.rest ∙ ap (λ (r : ReplicaOf g.row.S.Denot). rest_of r) there ∙ kept.beside)
+          (c.in_err-submit_op.ensures.err.opening ∙ ap (λ (r : ReplicaOf g.row.S.Denot). r.board.opening) there ∙ kept.opening)
+          kept.keeper kept.log;
+      none_out = λ e none. c.submit_op.ensures.none_out e
+          (subst (λ (r : ReplicaOf g.row.S.Denot). HasNoneOut r.board) (sym there) (kept.none_out e none));
+      crew_lost = rw (p.1, p.2) (loses_crew keeps old fault (fault_behind keeps old at.board fault kept.none_out
+          (subst (λ (r : ReplicaOf g.row.S.Denot). IsExecutionFault keeps r.board fault) there c.in_err-submit_op.ensures.fault)));
+      log_lost = rw (p.1, p.2) (loses_no_log g.K.Keeper.fails (g.K.Keeper.has_failed loop.self-inside.keeper) fault);
+    }
 
 pub loop-number-preserved : goal.loop-number-preserved
 loop-number-preserved g c =
     let loop = c.loop-number in
     let kept = loop.invariant in
     let at : ReplicaOf g.row.S.Denot = loop.self-inside.node.value in
-    let new = c.submit.new.replica in
+    let new = c.submit_op.new.replica in
     let log = loop.self-inside.log.value.log in
     let call = c.unwrap-call.result.now in
     let op = c.resolve-op.result in
     let there : c.deref_mut.result.now ≡ at = c.deref_mut.ensures.value in
-    let rest : rest_of new ≡ rest_of at = c.submit.ensures.rest ∙ ap (λ (r : ReplicaOf g.row.S.Denot). rest_of r) there in
+    let rest : rest_of new ≡ rest_of at = c.submit_op.ensures.rest ∙ ap (λ (r : ReplicaOf g.row.S.Denot). rest_of r) there in
     let put : AppendsOps (op ∷ []) at.board new.board =
-    subst (λ (r : ReplicaOf g.row.S.Denot). AppendsOps (op ∷ []) r.board new.board) there c.in_ok-submit.ensures.put in
+    subst (λ (r : ReplicaOf g.row.S.Denot). AppendsOps (op ∷ []) r.board new.board) there c.in_ok-submit_op.ensures.put in
     let names : c.directory.result.now ≡ at.names =
     c.directory.ensures ∙ ap (λ (r : ReplicaOf g.row.S.Denot). r.names) c.deref-in-loop-number-2.ensures in
     let looked_up : op_of at.names call ≡ op = ap (λ (ns : List (List ℕ)). op_of ns call) (sym names) ∙ sym c.resolve-op.ensures.value in
@@ -66,15 +69,20 @@ loop-number-preserved g c =
       none_out = λ e none. put.none_out (kept.none_out e none);
     }
 
-pub returns-clause-bank : goal.returns-clause-bank
-returns-clause-bank g c =
+pub returns-clause-serves : goal.returns-clause-serves
+returns-clause-serves g c =
     let loop = c.loop-number in
     let kept = loop.invariant in
-    kept_bank c.args.self.now (record { log = loop.self-inside.log.value.log; node = loop.self-inside.node.value; keeper = loop.self-inside.keeper })
-    kept.beside kept.opening kept.keeper kept.log
+    record {
+      bank = kept_bank c.args.self.now (record { log = loop.self-inside.log.value.log; node = loop.self-inside.node.value; keeper = loop.self-inside.keeper })
+          kept.beside kept.opening kept.keeper kept.log;
+      none_out = kept.none_out;
+      crew_lost = tt;
+      log_lost = tt;
+    }
 
-pub returns-in_err-submit-clause-one_each : goal.returns-in_err-submit-clause-one_each
-returns-in_err-submit-clause-one_each g c = c.loop-number.invariant.kept.valid.log
+pub returns-in_err-submit_op-clause-one_each : goal.returns-in_err-submit_op-clause-one_each
+returns-in_err-submit_op-clause-one_each g c = c.loop-number.invariant.kept.valid.log
 
 pub returns-clause-one_each : goal.returns-clause-one_each
 returns-clause-one_each g c = c.loop-number.invariant.kept.valid.log

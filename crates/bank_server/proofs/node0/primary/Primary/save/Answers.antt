@@ -4,7 +4,7 @@ use Rattle.sb_checkpoint.specs.Stores.{StoreDoes}
 use Rattle.sb_replica.specs.Marking.{PutsBytes}
 use Rattle.sb_replica.specs.Replica.{ReplicaOf}
 use Rattle.bank_server.specs.Primary.{PrimaryOf}
-use Rattle.bank_server.proofs.Saves.{not_read, read_back, read_other}
+use Rattle.bank_server.proofs.sessions.Saves.{not_read, read_back, read_other}
 use Rattle.bank_server.proofs.node0.primary.Primary.save.Goals as goal
 
 pub returns-in_err-same-clause-fault : goal.returns-in_err-same-clause-fault

@@ -1,6 +1,6 @@
 use Rattle.std.proofs.Common.{rules, ◌≡◌, ◌++◌, List, ap, drop, length, subst, sym, take}
 use Rattle.bank_server.specs.Clients.{ClientOf, ClientsOf, StaysServed, no_past, past_with}
-use Rattle.bank_server.proofs.ClientPlaces.{written_back}
+use Rattle.bank_server.proofs.clients.ClientPlaces.{written_back}
 use Rattle.bank_server.proofs.session.clients.Clients.replace.Goals as goal
 
 pub returns-clause-served : goal.returns-clause-served

@@ -1,7 +1,7 @@
 use Rattle.std.proofs.Common.{rules, ◌≡◌, ◌++◌, List, ap, drop, length, subst, sym, take}
 use Rattle.std.specs.Prelude.{IfSome, slice_get}
 use Rattle.bank_server.specs.Clients.{ClientOf, ClientsOf, StaysServed, sends}
-use Rattle.bank_server.proofs.ClientPlaces.{written_back}
+use Rattle.bank_server.proofs.clients.ClientPlaces.{written_back}
 use Rattle.bank_server.proofs.session.clients.Clients.sent.Goals as goal
 
 pub returns-clause-served : goal.returns-clause-served

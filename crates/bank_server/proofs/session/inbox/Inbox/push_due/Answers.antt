@@ -9,9 +9,9 @@ use Rattle.bank_server.specs.Primary.{opening_rows_of}
 use Rattle.bank_server.specs.Session.{outcome_by}
 use Rattle.bank_server.specs.declared.session.inbox.PendingAsk.{PendingAsk}
 use Rattle.bank_server.specs.inner.ClientSteps.{inbox_state}
-use Rattle.bank_server.proofs.ClientSteps.{tells_due}
-use Rattle.bank_server.proofs.Keeping.{stays_bank}
-use Rattle.bank_server.proofs.WholeReplies.{tells_all}
+use Rattle.bank_server.proofs.clients.ClientSteps.{tells_due}
+use Rattle.bank_server.proofs.sessions.Keeping.{stays_bank}
+use Rattle.bank_server.proofs.boards.WholeReplies.{tells_all}
 use Rattle.bank_server.proofs.session.inbox.Inbox.push_due.Goals as goal
 
 pub returns-clause-tells : goal.returns-clause-tells

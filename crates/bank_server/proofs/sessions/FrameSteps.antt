@@ -21,7 +21,7 @@ use Rattle.bank_server.specs.SessionFaults.{LosesCrew}
 use Rattle.bank_server.specs.declared.session.session_fault.SessionFault.{SessionFault}
 use Rattle.bank_server.specs.declared.session.session_fault.SessionFault.TheVariants as faults
 use Rattle.bank_server.specs.declared.session.session_fault.SessionFault.TheVariants.{Unexpected, CrewGone, Device, OutOfMemory, Log, TooMany}
-use Rattle.bank_server.proofs.Keeping.{goes_on_after}
+use Rattle.bank_server.proofs.sessions.Keeping.{goes_on_after}
 
 -- frames more, behind those of bytes before
 pub further : (bytes heard unread left : List ℕ) (wires more : List Frame) → heard ≡ flat_map spelling wires ++ unread

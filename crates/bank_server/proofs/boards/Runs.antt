@@ -12,7 +12,7 @@ use Rattle.bank_server.specs.PreparedInput.{IsPreparedInputOf, output_after}
 use Rattle.bank_server.specs.Primary.{RunsLog, node_at_opening}
 use Rattle.bank_server.specs.Standing.{IsStandingWithin}
 use Rattle.bank_server.specs.declared.input.prepared_input.PreparedInput.{PreparedInput}
-use Rattle.bank_server.proofs.LogOps.{length-ops}
+use Rattle.bank_server.proofs.boards.LogOps.{length-ops}
 use Rattle.sb_calls.specs.Op.{op_of}
 
 module _ (text : List ℕ) (prepared : PreparedInput) (replica : ReplicaOf MemoryStore) (ready : IsPreparedInputOf text prepared)

@@ -1,5 +1,5 @@
 -- What is heard of one client, piece after piece, and what it is told.
-use Rattle.std.proofs.Common.{arith, ◌≡◌, ℕ, ◌+◌, ◌<◌, true, false, true≢false, Option, Some, None, is_some, Ok, Err, List, [], ◌∷◌, ◌++◌, length, map, refl, sym, ap, subst, ◌∙◌, append_assoc, append-nil, inl, inr}
+use Rattle.std.proofs.Common.{arith, ◌≡◌, ℕ, ◌<◌, true, false, true≢false, Option, Some, None, is_some, Ok, Err, List, [], ◌∷◌, ◌++◌, length, map, refl, sym, ap, subst, ◌∙◌, append_assoc, append-nil, inl, inr}
 use Rattle.std.specs.Prelude.{◌≢◌, ◌⊎◌}
 use Rattle.std.specs.List.{All, Contains, flat_map}
 use Rattle.std.proofs.lemmas.List.{length-append, nil_from_length}
@@ -23,8 +23,8 @@ use Rattle.bank_server.specs.declared.session.session_fault.SessionFault.{Sessio
 use Rattle.bank_server.specs.declared.session.session_fault.SessionFault.TheVariants.{Frame, Unexpected, CrewGone, Device, OutOfMemory, Log, TooMany}
 use Rattle.bank_server.specs.inner.ClientSteps.{HandlesClient, ReachesClient, StopsClient, TellsDue}
 use Rattle.bank_server.specs.inner.ClientTurns.{HearsClient, IsServing, TellsClient, ending_of, state_of_client}
-use Rattle.bank_server.proofs.FrameSteps.{bad_at, further}
-use Rattle.bank_server.proofs.ClientSteps.{many_unflushed}
+use Rattle.bank_server.proofs.sessions.FrameSteps.{bad_at, further}
+use Rattle.bank_server.proofs.clients.ClientSteps.{many_unflushed}
 
 -- ---- pieces
 

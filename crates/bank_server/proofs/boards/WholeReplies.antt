@@ -9,7 +9,7 @@ use Rattle.sb_calls.specs.declared.call.Call.{Call}
 use Rattle.bank_server.specs.Execution.{HasReplies}
 use Rattle.sb_sequencer.specs.Numbering.{calls_of}
 use Rattle.bank_server.specs.Primary.{HasWholeLog, PreservesBank, PrimaryOf, opening_rows_of}
-use Rattle.bank_server.proofs.Boards.{all_replies}
+use Rattle.bank_server.proofs.boards.Boards.{all_replies}
 
 -- the rows on which the log is executed stay
 pub same_opening : {S K : Type 0} {keeps : K → List (Key × Call) → Type 0} {opening : K → Option (List ℕ)} {has_failed : K → Bool} (old new : PrimaryOf S K)

@@ -9,8 +9,8 @@ use Rattle.sb_sequencer.specs.Numbering.{first_asks}
 use Rattle.bank_server.specs.Session.{outcome_of}
 use Rattle.bank_server.specs.Standing.{standing_of}
 use Rattle.bank_server.specs.Pending.{pending_ask}
-use Rattle.bank_server.proofs.Outcomes.{ended_as_before}
-use Rattle.bank_server.proofs.Standings.{standings_after}
+use Rattle.bank_server.proofs.sessions.Outcomes.{ended_as_before}
+use Rattle.bank_server.proofs.lines.Standings.{standings_after}
 
 -- where two maps agree, they agree at each element
 each_same : {A B : Type 0} (f g : A → B) (xs : List A) → map f xs ≡ map g xs → All (λ x. f x ≡ g x) xs

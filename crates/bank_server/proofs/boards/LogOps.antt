@@ -17,7 +17,7 @@ use Rattle.bank_server.specs.Faults.{IsExecutionFault}
 use Rattle.bank_server.specs.Primary.{HasPrefixOf, log_ops}
 use Rattle.bank_server.specs.inner.Appends.{AppendsOps}
 use Rattle.bank_server.specs.inner.KeptPrimary.{IsKeptPrimary}
-use Rattle.bank_server.specs.SessionFaults.{LosesCrew}
+use Rattle.bank_server.specs.SessionFaults.{LosesCrew, LosesLog}
 use Rattle.bank_server.specs.inner.FlushFaults.{session_of_crew_fault}
 
 some_is : {A : Type 0} {x y : A} → ◌≡◌ {A = Option A} (Some x) (Some y) → x ≡ y
@@ -37,6 +37,10 @@ pub loses_crew : (keeps : Bool) (board : BoardOf Op) (fault : CrewFault) → IsE
     → LosesCrew keeps board (session_of_crew_fault fault)
 loses_crew keeps board crew.CrewGone is = is
 loses_crew keeps board crew.OutOfMemory is = tt
+
+pub loses_no_log : (fails failed : Bool) (fault : CrewFault) → LosesLog fails failed (session_of_crew_fault fault)
+loses_no_log fails failed crew.CrewGone = tt
+loses_no_log fails failed crew.OutOfMemory = tt
 
 -- ---- the next op
 

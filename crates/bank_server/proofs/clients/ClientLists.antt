@@ -17,8 +17,8 @@ use Rattle.cown_board.proofs.StateChanges.{slice_get-set_other, slice_get-set_sa
 use Rattle.bank_server.specs.Clients.{AreServed, AreTakenInOrder, ClientOf, IsServed, PastOf, Piece, TakesArrivals, TakesFromFront, ServesTurn, asks_of_all, frames_of_client, past_after, pieces_of_client, with_number}
 use Rattle.bank_server.specs.Session.{ask_of_frame, asks_in}
 use Rattle.bank_server.specs.inner.ClientTurns.{HearsClient, IsServing, TellsClient, TellsClients, state_of_client}
-use Rattle.bank_server.proofs.ClientSteps.{beside}
-use Rattle.bank_server.proofs.ClientTurns.{served_from, serving_from}
+use Rattle.bank_server.proofs.clients.ClientSteps.{beside}
+use Rattle.bank_server.proofs.clients.ClientTurns.{served_from, serving_from}
 
 -- ---- what others ask leaves a client as it is served
 

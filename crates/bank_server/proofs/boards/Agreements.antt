@@ -11,7 +11,7 @@ use Rattle.cown_board.specs.Board.{BoardOf, length_of, unfinished_of, reply_in}
 use Rattle.sb_replica.proofs.IdleReplies.{is_there, length_held, reply_at}
 use Rattle.sb_replica.specs.Replica.{board_replies}
 use Rattle.bank_server.specs.Agreement.{HasSameReplies, final_contents}
-use Rattle.bank_server.proofs.Boards.{past}
+use Rattle.bank_server.proofs.boards.Boards.{past}
 
 -- no number is 0
 no_zero : (board : BoardOf Op) → reply_in board 0 ≡ None

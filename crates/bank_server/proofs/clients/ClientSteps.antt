@@ -29,9 +29,9 @@ use Rattle.bank_server.specs.declared.session.inbox.PendingAsk.{PendingAsk}
 use Rattle.bank_server.specs.declared.session.session_fault.SessionFault.{SessionFault}
 use Rattle.bank_server.specs.declared.session.session_fault.SessionFault.TheVariants as faults
 use Rattle.bank_server.specs.declared.session.session_fault.SessionFault.TheVariants.{Unexpected, CrewGone, Device, OutOfMemory, Log, TooMany}
-use Rattle.bank_server.proofs.FrameSteps.{bad_at}
-use Rattle.bank_server.proofs.ClientAsks.{All-behind, All-front, outcomes_kept, pending_kept, still_among}
-use Rattle.bank_server.proofs.Flushes.{all_asks, asks_push, told_all, told_same, untold_more, untold_none}
+use Rattle.bank_server.proofs.sessions.FrameSteps.{bad_at}
+use Rattle.bank_server.proofs.clients.ClientAsks.{All-behind, All-front, outcomes_kept, pending_kept, still_among}
+use Rattle.bank_server.proofs.sessions.Flushes.{all_asks, asks_push, told_all, told_same, untold_more, untold_none}
 
 -- ---- the asks of others
 

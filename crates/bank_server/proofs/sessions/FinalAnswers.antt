@@ -14,7 +14,7 @@ use Rattle.sb_sequencer.specs.declared.answer.Numbered.TheVariants.{New, Repeat}
 use Rattle.bank_server.specs.AskResults.{AnswersAreFinal, standing_of_answer}
 use Rattle.bank_server.specs.Standing.{standing_of}
 use Rattle.bank_server.specs.declared.input.asking.Standing.{Standing}
-use Rattle.bank_server.proofs.Standings.{answered_new, answered_repeat, answered_mismatch, answered_full, standings_after}
+use Rattle.bank_server.proofs.lines.Standings.{answered_new, answered_repeat, answered_mismatch, answered_full, standings_after}
 
 some_is : {A : Type 0} {x y : A} → ◌≡◌ {A = Option A} (Some x) (Some y) → x ≡ y
 some_is h = cc

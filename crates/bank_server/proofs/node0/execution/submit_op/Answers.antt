@@ -5,8 +5,8 @@ use Rattle.cown_workers.specs.Draining.{PreservesLog}
 use Rattle.sb_replica.specs.Replica.{ReplicaOf, log_of}
 use Rattle.sb_replica_log.specs.Offers.{after_offer}
 use Rattle.sb_replica_log.specs.declared.offered.Offered.{Offered}
-use Rattle.bank_server.proofs.Boards.{put_after, put_after_run, idle_none_out}
-use Rattle.bank_server.proofs.node0.execution.submit.Goals as goal
+use Rattle.bank_server.proofs.boards.Boards.{put_after, put_after_run, idle_none_out}
+use Rattle.bank_server.proofs.node0.execution.submit_op.Goals as goal
 
 pub returns-in-Next-clause-put : goal.returns-in-Next-clause-put
 returns-in-Next-clause-put g c =

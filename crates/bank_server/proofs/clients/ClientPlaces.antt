@@ -18,7 +18,7 @@ use Rattle.bank_server.specs.Standing.{IsStandingWithin}
 use Rattle.bank_server.specs.declared.session.TheConstants.{UNREAD_BYTES}
 use Rattle.bank_server.specs.declared.session.inbox.PendingAsk.{PendingAsk}
 use Rattle.bank_server.specs.declared.session.session_fault.SessionFault.TheVariants.{Frame, Unexpected, CrewGone, Device, OutOfMemory, Log, TooMany}
-use Rattle.bank_server.proofs.FrameSteps.{nothing_short}
+use Rattle.bank_server.proofs.sessions.FrameSteps.{nothing_short}
 
 false_is_true : false ≡ true → ⊥
 false_is_true f = cc

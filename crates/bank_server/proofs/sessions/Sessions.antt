@@ -26,9 +26,9 @@ use Rattle.bank_server.specs.inner.SessionSteps.{HearsSession, LeadsSession, Rea
 use Rattle.bank_server.specs.declared.session.TheConstants.{ASKS_OF_SESSION}
 use Rattle.bank_server.specs.declared.session.session_fault.SessionFault.{SessionFault}
 use Rattle.bank_server.specs.declared.session.session_fault.SessionFault.TheVariants.{Frame, Unexpected, CrewGone, Device, OutOfMemory, Log, TooMany}
-use Rattle.bank_server.proofs.ClientSteps.{many_unflushed}
-use Rattle.bank_server.proofs.FrameSteps.{further}
-use Rattle.bank_server.proofs.OwnLog.{own_log}
+use Rattle.bank_server.proofs.clients.ClientSteps.{many_unflushed}
+use Rattle.bank_server.proofs.sessions.FrameSteps.{further}
+use Rattle.bank_server.proofs.sessions.OwnLog.{own_log}
 
 -- ---- on the way
 

@@ -14,8 +14,8 @@ use Rattle.bank_server.specs.Input.{asks_from}
 use Rattle.bank_server.specs.Standing.{standing_of}
 use Rattle.bank_server.specs.Output.{log_of_asks}
 use Rattle.bank_server.specs.declared.input.asking.Standing.{Standing}
-use Rattle.bank_server.proofs.LineKeys.{asks_with_keys_from-push, running_from-push, HaveKeys-push}
-use Rattle.bank_server.proofs.Standings.{standings_after}
+use Rattle.bank_server.proofs.lines.LineKeys.{asks_with_keys_from-push, running_from-push, HaveKeys-push}
+use Rattle.bank_server.proofs.lines.Standings.{standings_after}
 
 -- a line without a fault is asked last
 pub asks_from-line : (first : ℕ) (before : List AskLine) (line : List ℕ) (ls : List (List ℕ)) (asked : AskLine) → ask_line_of line ≡ Ok asked

@@ -7,8 +7,8 @@ use Rattle.sb_calls.specs.declared.call.Call.{Call}
 use Rattle.sb_calls.specs.declared.call.TheConstants.{LOG_CALLS}
 use Rattle.sb_sequencer.specs.Numbering.{index_of_key}
 use Rattle.bank_server.specs.Session.{ToldOutcomesStand, outcome_of}
-use Rattle.bank_server.proofs.Outcomes.{ended_so}
-use Rattle.bank_server.proofs.Standings.{place_kept, standing_kept}
+use Rattle.bank_server.proofs.sessions.Outcomes.{ended_so}
+use Rattle.bank_server.proofs.lines.Standings.{place_kept, standing_kept}
 
 -- its key has a number
 numbered : (opening : Rows) (log more : List (Key × Call)) (ask : Key × Call) (k : ℕ) → index_of_key log ask.0 ≡ Some k

@@ -17,8 +17,8 @@ use Rattle.bank_server.specs.Asks.{key_of_line, asks_with_keys}
 use Rattle.bank_server.specs.Standing.{standing_of}
 use Rattle.bank_server.specs.declared.input.asking.Standing.{Standing}
 use Rattle.bank_server.specs.declared.input.asking.Standing.TheVariants.{LogFull}
-use Rattle.bank_server.proofs.LineKeys.{own_key, absent_from_log, full_log}
-use Rattle.bank_server.proofs.Standings.{answered_new, answered_repeat, answered_mismatch, answered_full}
+use Rattle.bank_server.proofs.lines.LineKeys.{own_key, absent_from_log, full_log}
+use Rattle.bank_server.proofs.lines.Standings.{answered_new, answered_repeat, answered_mismatch, answered_full}
 
 -- a standing in the log as it was is one in the log as it is, if that stayed
 by_same_log : {A : Type 0} {old new : List (Key × Call)} {x : A} (f : List (Key × Call) → A) → new ≡ old → x ≡ f old → x ≡ f new

@@ -21,7 +21,7 @@ use Rattle.bank_server.specs.Faults.{IsTextFaultOf}
 use Rattle.bank_server.specs.Input.{InputText, asks_from, in_opening, in_call}
 use Rattle.bank_server.specs.inner.RunFaults.{run_of_opening_fault}
 use Rattle.bank_server.specs.Standing.{IsStandingWithin, standing_of, standing_line}
-use Rattle.bank_server.proofs.Standings.{all_among}
+use Rattle.bank_server.proofs.lines.Standings.{all_among}
 use Rattle.sb_sequencer.specs.Numbering.{calls_of}
 use Rattle.bank_server.specs.Output.{log_of_asks, answer_lines, output_lines, output_of}
 use Rattle.bank_server.specs.declared.input.asking.Standing.{Standing}

@@ -1,0 +1,5 @@
+pub mod AnswerStandings
+pub mod AskedLines
+pub mod LineKeys
+pub mod Standings
+pub mod WholeOutput

@@ -1,0 +1,10 @@
+pub mod FinalAnswers
+pub mod FinalOutcomes
+pub mod Flushes
+pub mod FrameSteps
+pub mod Keeping
+pub mod Outcomes
+pub mod OwnLog
+pub mod Saves
+pub mod Serving
+pub mod Sessions
