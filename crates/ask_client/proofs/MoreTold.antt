@@ -1,19 +1,18 @@
 -- What a client has told, step by step.
-use Rattle.std.proofs.Common.{◌≡◌, ℕ, ◌+◌, ◌≤◌, Option, Some, None, Result, Ok, Err, true, true≢false, List, [], ◌∷◌, ◌++◌, length, refl, sym, ap, subst, ◌∙◌, arith, append_assoc, append-nil, length-append, length-drop}
-use Rattle.std.specs.Prelude.{IfSome, MatchResult, OnErr, is_ok}
+use Rattle.std.proofs.Common.{◌≡◌, ℕ, ◌+◌, Option, Some, None, Result, Ok, Err, true, true≢false, List, [], ◌++◌, length, sym, ap, subst, ◌∙◌, arith, append_assoc, append-nil, length-append, length-drop}
+use Rattle.std.specs.Prelude.{OnErr, is_ok}
 use Rattle.std.specs.List.{flat_map}
-use Rattle.std.specs.Io.KnownBytes.{Appends, Consumes, IsAtEnd}
-use Rattle.std.proofs.KnownBytes.{Appends-nil, Appends-trans}
+use Rattle.std.specs.Io.KnownBytes.{Appends, Consumes}
+use Rattle.std.proofs.KnownBytes.{Appends-trans}
 use Rattle.sb_rows.specs.Text.{unlines}
 use Rattle.sb_frames.specs.Grammar.{spelling}
 use Rattle.sb_frames.specs.declared.frame.AskOutcome.{AskOutcome}
 use Rattle.ask_client.specs.Asking.{AskEnd, PrintsUntil}
 use Rattle.ask_client.specs.Batches.{BatchOf, after_outcomes, outcome_frames}
-use Rattle.ask_client.specs.Connections.{BringsAll, DialerStreams, DialsNext, LeavesStream}
+use Rattle.ask_client.specs.Connections.{DialerStreams, LeavesStream}
 use Rattle.ask_client.specs.Conversations.{Hears}
 use Rattle.ask_client.specs.OutcomeLines.{outcome_lines}
 use Rattle.ask_client.specs.Writes.{WritesFront}
-use Rattle.ask_client.specs.declared.ask_fault.AskFault.{AskFault}
 use Rattle.ask_client.specs.declared.ask_fault.AskFault.TheVariants.{Line, NoNumber, Unexpected, Connection, End, Input, Output, OutOfMemory}
 use Rattle.ask_client.specs.declared.server_stream.ServerStream.{ServerStream}
 use Rattle.ask_client.specs.declared.talk_fault.TalkFault.{TalkFault}
@@ -67,11 +66,6 @@ module _ {R W : Type 0} (remaining : R → Option (List ℕ)) where
     brought = has.brought;
     printed = prints_until result (unlines (outcome_lines start.first told)) start.text state.text has.printed;
   }
-
-  pub tells_until : (result : AskEnd) (old new : AskState R W) → TellsMore remaining (Ok tt) old new → TellsMore remaining result old new
-  tells_until result old new tells start told has =
-      let (more, then, within, is) = tells start told has in
-      (more, told_until result start (told ++ more) new then, within, is)
 
   -- nothing more is told, and no connection brought more
   pub tells_none : (old new : AskState R W) → new.batch ≡ old.batch → new.text ≡ old.text

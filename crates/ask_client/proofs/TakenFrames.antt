@@ -1,5 +1,5 @@
 -- The frames of outcomes, taken one after another.
-use Rattle.std.proofs.Common.{◌≡◌, ℕ, ◌+◌, ◌<◌, Option, Err, List, [], ◌∷◌, ◌++◌, length, refl, sym, ap, subst, ◌∙◌, arith, length-drop}
+use Rattle.std.proofs.Common.{◌≡◌, ℕ, ◌+◌, ◌<◌, Option, Err, List, [], ◌∷◌, ◌++◌, length, sym, ap, subst, ◌∙◌, arith, length-drop}
 use Rattle.std.specs.Prelude.{◌≢◌}
 use Rattle.std.specs.Io.KnownBytes.{Consumes}
 use Rattle.std.proofs.KnownBytes.{Consumes-trans}
@@ -15,7 +15,7 @@ use Rattle.ask_client.specs.OutcomeLines.{outcome_line}
 use Rattle.ask_client.specs.declared.talk_fault.TalkFault.{TalkFault}
 use Rattle.ask_client.specs.declared.talk_fault.TalkFault.TheVariants.{Connection, Unexpected, OutOfMemory}
 use Rattle.ask_client.specs.inner.Telling.{EndsTaking, TakesOutcomes, TellsFrame}
-use Rattle.ask_client.proofs.Told.{some_element, tells_fed, tells_more, tells_one}
+use Rattle.ask_client.proofs.Told.{tells_fed, tells_more, tells_one}
 use Rattle.ask_client.proofs.UnexpectedBytes.{another_frame}
 
 -- while turns are left, so are calls

@@ -1,9 +1,9 @@
 -- Bytes that are no outcome of the next ask.
-use Rattle.std.proofs.Common.{◌≡◌, ℕ, Result, Ok, Err, List, [], ◌++◌, length, true, false, true≢false, refl, sym, ap, ◌∙◌, arith, append_assoc, length-append}
+use Rattle.std.proofs.Common.{◌≡◌, ℕ, Result, Ok, Err, List, [], ◌++◌, length, false, true≢false, refl, sym, ap, ◌∙◌, arith, append_assoc, length-append}
 use Rattle.std.specs.Prelude.{◌≢◌}
 use Rattle.sb_frames.proofs.Frames.{decoded_again, decoded_settled, one_frame, spelling_size}
 use Rattle.sb_frames.specs.Decoding.{decode_result, frame_size}
-use Rattle.sb_frames.specs.Grammar.{IsFrame, Spells, spelling}
+use Rattle.sb_frames.specs.Grammar.{spelling}
 use Rattle.sb_frames.specs.Streaming.{FailsBy, HandsOut, StreamState}
 use Rattle.sb_frames.specs.declared.fault.FrameFault.{FrameFault}
 use Rattle.sb_frames.specs.declared.fault.FrameFault.TheVariants.{Short}

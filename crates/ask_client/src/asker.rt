@@ -14,7 +14,7 @@ use crate::batch::{Batch, BatchFault};
 use crate::conversation::converse;
 use crate::dialer::Dialer;
 use crate::plan::AskPlan;
-use crate::sending::send;
+use crate::sending::write_and_flush;
 use crate::server_stream::ServerStream;
 use crate::talk_fault::TalkFault;
 use sb_calls::read_call;
@@ -146,7 +146,7 @@ impl<R: Read, W: Write> Asker<R, W> {
             return Ok(());
         };
         let talked = self.talk(stream, dialer);
-        if send(output, &self.lines).is_err() {
+        if write_and_flush(output, &self.lines).is_err() {
             return Err(AskFault::Output);
         }
         after_talk(talked)
@@ -228,7 +228,7 @@ impl<R: Read, W: Write> Asker<R, W> {
     }
 
     /// Leaves the connection that is open, if one is.
-    pub(crate) fn leave<D>(&mut self, dialer: &mut D)
+    pub(crate) fn leave_server<D>(&mut self, dialer: &mut D)
     where
         D: Dialer<Reader = R, Writer = W>,
         ensures { (client : ℕ) (start : Option (DialerStreams R W)) (first : ℕ) (told : List AnyOutcome)

@@ -54,7 +54,7 @@ where
     match asker.ask_input(input, dialer, output) {
         Ok(()) => asker.end(dialer),
         Err(fault) => {
-            asker.leave(dialer);
+            asker.leave_server(dialer);
             Err(fault)
         }
     }

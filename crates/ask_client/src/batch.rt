@@ -165,7 +165,7 @@ impl Batch {
     {
         let mut request = self.first;
         for call in &self.calls[self.told..] {
-            push_ask(self.client, request, call, bytes)?;
+            push_request(self.client, request, call, bytes)?;
             request += 1;
         }
         bytes.extend_from_slice(&encode(&Frame::Flush))
@@ -173,7 +173,12 @@ impl Batch {
 }
 
 // Appends the frame of an ask.
-fn push_ask(client: u32, request: u64, call: &Call, bytes: &mut Vec<u8>) -> Result<(), AllocError>
+fn push_request(
+    client: u32,
+    request: u64,
+    call: &Call,
+    bytes: &mut Vec<u8>,
+) -> Result<(), AllocError>
     requires { request < 2 ^ 32 }
     ensures { OnOk result (bytes.new.items ≡ bytes.old.items ++ spelling (Ask client request call.now)) }
 {

@@ -10,7 +10,7 @@ ghost use Rattle.ask_client.specs.inner.Telling.{TakesOutcomes, TellsFrame};
 
 use crate::batch::Batch;
 use crate::outcome_lines::push_outcome_line;
-use crate::sending::send;
+use crate::sending::write_and_flush;
 use crate::server_stream::ServerStream;
 use crate::talk_fault::TalkFault;
 use sb_frames::{Frame, Stream};
@@ -55,7 +55,7 @@ fn send_batch<W: Write>(batch: &Batch, bytes: &mut Vec<u8>, writer: &mut W) -> R
 {
     bytes.clear();
     batch.spell(bytes)?;
-    match send(writer, bytes) {
+    match write_and_flush(writer, bytes) {
         Ok(()) => Ok(()),
         Err(_) => Err(TalkFault::Connection),
     }
@@ -116,7 +116,7 @@ fn take_frames(frames: &mut Stream, batch: &mut Batch, lines: &mut Vec<u8>) -> R
 {
     for _ in 0..batch.len() {
         match frames.next() {
-            Ok(Some(frame)) => tell(&frame, batch, lines)?,
+            Ok(Some(frame)) => tell_outcome(&frame, batch, lines)?,
             Ok(None) => return Ok(()),
             Err(_) => return Err(TalkFault::Unexpected),
         }
@@ -129,7 +129,7 @@ fn take_frames(frames: &mut Stream, batch: &mut Batch, lines: &mut Vec<u8>) -> R
 }
 
 // Tells the outcome of the batch's first call.
-fn tell(frame: &Frame, batch: &mut Batch, lines: &mut Vec<u8>) -> Result<(), TalkFault>
+fn tell_outcome(frame: &Frame, batch: &mut Batch, lines: &mut Vec<u8>) -> Result<(), TalkFault>
     requires { batch.old.calls ≢ [] }
     ensures { TellsFrame batch.old frame.now result lines.old.items lines.new.items batch.new }
 {

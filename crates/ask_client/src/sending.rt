@@ -7,15 +7,15 @@ use std::io::{ErrorKind, Write};
 /// Writes all these bytes, and flushes the writer.
 ///
 /// Fails if a write or the flush fails; a first part of the bytes, or all, are written then.
-pub(crate) fn send<W: Write>(writer: &mut W, bytes: &[u8]) -> io::Result<()>
+pub(crate) fn write_and_flush<W: Write>(writer: &mut W, bytes: &[u8]) -> io::Result<()>
     ensures { WritesFront result bytes.now (W.contents writer.old) (W.contents writer.new) }
 {
-    put(writer, bytes)?;
+    write_all(writer, bytes)?;
     writer.flush()
 }
 
 // Writes all these bytes, or after a failure a first part of them.
-fn put<W: Write>(writer: &mut W, bytes: &[u8]) -> io::Result<()>
+fn write_all<W: Write>(writer: &mut W, bytes: &[u8]) -> io::Result<()>
     ensures { WritesFront result bytes.now (W.contents writer.old) (W.contents writer.new) }
 {
     let mut rest = bytes;

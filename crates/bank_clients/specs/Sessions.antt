@@ -1,5 +1,5 @@
 -- The sessions of clients who are served at once.
-use Rattle.std.specs.Prelude.{◌≡◌, ℕ, Option, Some, None, Err, List, [], ◌∷◌}
+use Rattle.std.specs.Prelude.{◌≡◌, ℕ, Option, Some, Err, List, [], ◌∷◌}
 use Rattle.bank_server.specs.Clients.{ClientOf, ClientsOf, End, Piece}
 use Rattle.bank_server.specs.declared.session.session_fault.SessionFault.TheVariants.{Device}
 use Rattle.bank_clients.specs.History.{OutsideOf}

@@ -80,7 +80,7 @@ impl Slot {
 
     /// Reads once: how many bytes have come, or 0 at the end, or `None` if the connection fails.
     /// `None` altogether if nothing has come by now.
-    pub(crate) fn read(&mut self, chunk: &mut [u8], now: Instant) -> Option<Option<usize>>
+    pub(crate) fn read_once(&mut self, chunk: &mut [u8], now: Instant) -> Option<Option<usize>>
         ensures { IfSome result (λ read. IfSome read (λ count. count ≤ length chunk.new)) }
     {
         for _ in 0..u64::MAX {

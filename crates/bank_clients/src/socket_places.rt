@@ -77,7 +77,7 @@ impl SocketPlaces {
     }
 
     /// A guest comes to a place that was taken.
-    pub(crate) fn put(&mut self, place: usize, slot: Slot) {
+    pub(crate) fn occupy(&mut self, place: usize, slot: Slot) {
         self.look = earlier(self.look, deadline(&slot, self.patience));
         if let Some(old) = self.slots.get_mut(place) {
             *old = Some(slot);
@@ -85,7 +85,7 @@ impl SocketPlaces {
     }
 
     /// Closes the socket at a place, which is free then.
-    pub(crate) fn close(&mut self, place: usize) {
+    pub(crate) fn close_place(&mut self, place: usize) {
         if let Some(old) = self.slots.get_mut(place) {
             *old = None;
         }
@@ -137,7 +137,7 @@ impl SocketPlaces {
     }
 
     /// Takes what the system says of the socket at a place.
-    pub(crate) fn mark(&mut self, place: usize, sign: Sign) {
+    pub(crate) fn take_sign(&mut self, place: usize, sign: Sign) {
         let Some(slot) = self.slot(place) else {
             return;
         };
@@ -193,7 +193,7 @@ impl SocketPlaces {
             slot.is_listed = true;
             add(&mut self.ready, place);
         } else {
-            self.close(place);
+            self.close_place(place);
         }
         Some(is_client)
     }
@@ -213,7 +213,7 @@ impl SocketPlaces {
     {
         for _ in 0..self.ready.len() {
             let client = self.ready.pop()?;
-            if let Some(read) = self.read(client, chunk, now) {
+            if let Some(read) = self.read_place(client, chunk, now) {
                 return Some(Arrival { client, read });
             }
         }
@@ -221,7 +221,7 @@ impl SocketPlaces {
     }
 
     // Reads the socket at a place, if there is something.
-    fn read(&mut self, place: usize, chunk: &mut [u8], now: Instant) -> Option<Option<usize>>
+    fn read_place(&mut self, place: usize, chunk: &mut [u8], now: Instant) -> Option<Option<usize>>
         ensures { IfSome result (λ read. IfSome read (λ count. count ≤ length chunk.new)) }
     {
         let slot = self.slot(place)?;
@@ -229,7 +229,7 @@ impl SocketPlaces {
         if slot.has_failed {
             return Some(None);
         }
-        let read = slot.read(chunk, now);
+        let read = slot.read_once(chunk, now);
         let count = match read {
             Some(Some(count)) => count,
             _ => 0,
@@ -237,7 +237,7 @@ impl SocketPlaces {
         // What fills the chunk, or comes before the end, may not be all.
         let has_more = count > 0 && (count == chunk.len() || slot.is_closing);
         if is_skipped(slot, read) {
-            self.close(place);
+            self.close_place(place);
         } else if has_more {
             self.list(place);
         }
@@ -246,7 +246,7 @@ impl SocketPlaces {
 
     /// Leaves the client at a place: its socket is closed, if it isn't at fault, or else once what it
     /// still sends was skipped.
-    pub(crate) fn leave(&mut self, place: usize, is_at_fault: bool, now: Instant) {
+    pub(crate) fn leave_place(&mut self, place: usize, is_at_fault: bool, now: Instant) {
         let Some(slot) = self.slot(place) else {
             return;
         };
@@ -256,7 +256,7 @@ impl SocketPlaces {
             self.look = earlier(self.look, deadline);
             self.list(place);
         } else {
-            self.close(place);
+            self.close_place(place);
         }
     }
 
@@ -283,7 +283,7 @@ impl SocketPlaces {
         if until > now {
             self.look = earlier(self.look, Some(until));
         } else if slot.lingering.is_some() {
-            self.close(place);
+            self.close_place(place);
         } else if !slot.has_failed {
             slot.has_failed = true;
             self.list(place);

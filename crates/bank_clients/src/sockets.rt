@@ -117,7 +117,7 @@ impl<'a, H: Clock> ClientSockets<'a, H> {
                 is_closing: event.is_read_closed() || event.is_error(),
                 is_writable: event.is_writable(),
             };
-            self.places.mark(place, sign);
+            self.places.take_sign(place, sign);
         }
     }
 
@@ -128,7 +128,7 @@ impl<'a, H: Clock> ClientSockets<'a, H> {
         };
         match self.register(stream, peer, place) {
             Ok(slot) => {
-                self.places.put(place, slot);
+                self.places.occupy(place, slot);
                 self.left = self.left.saturating_sub(1);
             }
             Err(_) => self.places.give_back(place),
@@ -232,6 +232,6 @@ impl<'a, H: Clock> Connections for ClientSockets<'a, H> {
     }
 
     fn leave(&mut self, place: usize, is_at_fault: bool) {
-        self.places.leave(place, is_at_fault, self.now);
+        self.places.leave_place(place, is_at_fault, self.now);
     }
 }

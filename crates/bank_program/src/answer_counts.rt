@@ -2,6 +2,7 @@
 ghost use Rattle.bank_program.specs.inner.CountSteps.{CountsNone, CountsOneMore};
 
 use memchr::{memchr, memmem};
+use sb_calls::LOG_CALLS;
 use sb_rows::next_line;
 
 /// How many lines were answered, and how many of them otherwise than by a reply.
@@ -40,7 +41,7 @@ impl AnswerCounts {
     }
 
     /// Tells on standard error how many lines were answered otherwise than by a reply, if some were.
-    pub(crate) fn tell(&self, rt: &HostRuntime) {
+    pub(crate) fn print_to_stderr(&self, rt: &HostRuntime) {
         let (answers, log_full, mismatches) = (self.answers, self.log_full, self.mismatches);
         // If standard error fails, the answers are printed all the same.
         if log_full > 0 {
@@ -63,13 +64,16 @@ pub(crate) enum AnswerKind {
     Mismatch,
 }
 
+// How many bytes the shortest line of a reply has, as `1 done` with its line feed.
+const SHORTEST_LINE: usize = 7;
+
 /// The counts of a run's whole output. Nothing is counted if each line was answered by a reply: so a run whose
-/// lines are takes one search of its output for each of the other answers.
+/// lines are takes one search of its output, and another one if a log can be full.
 pub fn count_answers(output: &[u8]) -> AnswerCounts {
     let mut counts = AnswerCounts::new();
-    if memmem::find(output, b"log full\n").is_none()
-        && memmem::find(output, b"\nmismatch ").is_none()
-    {
+    let can_be_full = output.len() / SHORTEST_LINE > LOG_CALLS;
+    let is_full = can_be_full && memmem::find(output, b"log full\n").is_some();
+    if !is_full && memmem::find(output, b"\nmismatch ").is_none() {
         return counts;
     }
     let mut rest = output;

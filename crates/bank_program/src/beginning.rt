@@ -26,7 +26,7 @@ impl Beginning {
     }
 
     /// Keeps the next piece of the input, as far as there is room, and memory.
-    pub(crate) fn keep(&mut self, piece: &[u8]) {
+    pub(crate) fn extend(&mut self, piece: &[u8]) {
         if self.is_cut {
             return;
         }

@@ -121,9 +121,9 @@ pub(crate) fn command<'a>(alloc: Global) -> Result<Command<'a>, AllocError> {
         .about("A SmallBank store, proved")
         .subcommand(run)?
         .subcommand(play(alloc))?;
-    bank.subcommand(serve(alloc)?)?
+    bank.subcommand(serve_command(alloc)?)?
         .subcommand(log(alloc)?)?
-        .subcommand(ask(alloc)?)?
+        .subcommand(ask_command(alloc)?)?
         .subcommand(checkpoint(alloc)?)
 }
 
@@ -149,9 +149,9 @@ fn play<'a>(alloc: Global) -> Command<'a> {
 }
 
 // The subcommand that serves.
-fn serve<'a>(alloc: Global) -> Result<Command<'a>, AllocError> {
+fn serve_command<'a>(alloc: Global) -> Result<Command<'a>, AllocError> {
     let args = [
-        port(alloc)?,
+        port_option(alloc)?,
         listen(alloc)?,
         sessions(alloc),
         clients(alloc),
@@ -182,7 +182,7 @@ fn workers<'a>(alloc: Global) -> Arg<'a> {
         .help("How many threads work for the first node; with 0 it works alone")
 }
 
-fn port<'a>(alloc: Global) -> Result<Arg<'a>, AllocError> {
+fn port_option<'a>(alloc: Global) -> Result<Arg<'a>, AllocError> {
     number(alloc, "port", "0..65535", 0, 65_535)
         .help("Where to listen, at 127.0.0.1; with 0 at any free port")
         .required_unless_present("listen")
@@ -262,7 +262,7 @@ fn store<'a>(alloc: Global) -> Arg<'a> {
 }
 
 // The subcommand that asks.
-fn ask<'a>(alloc: Global) -> Result<Command<'a>, AllocError> {
+fn ask_command<'a>(alloc: Global) -> Result<Command<'a>, AllocError> {
     let args = [
         number(alloc, "port", "1..65535", 1, 65_535)
             .required(true)

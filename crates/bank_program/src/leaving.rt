@@ -21,7 +21,7 @@ const LONGEST: u64 = 10;
 /// notified that nothing more comes, and what it still sends is skipped: left unread, that could
 /// make the network lose what was sent to the client. One that is silent, or goes on sending, is
 /// left sooner.
-pub(crate) fn leave<R: Clock, S: Read + OpenStream>(
+pub(crate) fn dismiss_client<R: Clock, S: Read + OpenStream>(
     rt: &R,
     stream: &mut S,
     served: Result<(), SessionFault>,

@@ -54,7 +54,7 @@ pub fn ask_program<H: Net + Clock>(
         &mut dialer,
         &mut writer,
     )?;
-    writer.counts().tell(rt);
+    writer.counts().print_to_stderr(rt);
     Ok(())
 }
 

@@ -35,7 +35,7 @@ pub fn log_program(
     let reason = Reason::new();
     let done = match action {
         LogAction::List(listing) => list(rt, folder, listing, &reason, trouble),
-        LogAction::Cut => cut(rt, folder, &reason, trouble),
+        LogAction::Cut => cut_end(rt, folder, &reason, trouble),
     };
     let name = match done {
         Err(ListFault::Rest) => REST,
@@ -81,7 +81,7 @@ fn print_listing<F: LogFile>(
 }
 
 // Moves what follows the last whole record of a log to a file beside it, and prints the log's line.
-fn cut(
+fn cut_end(
     rt: &HostRuntime,
     folder: &str,
     reason: &Reason,

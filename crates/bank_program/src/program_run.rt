@@ -47,7 +47,7 @@ pub fn run_program<H: Threads + Wait + Clock + Sync>(
             gate,
         )?;
     }
-    writer.counts().tell(rt);
+    writer.counts().print_to_stderr(rt);
     Ok(())
 }
 

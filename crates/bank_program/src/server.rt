@@ -10,7 +10,7 @@ ghost use Rattle.bank_program.specs.inner.ServeSteps.{ServesAll, ServesNext};
 ghost use Rattle.bank_program.specs.inner.StepFaults.{IsEnding};
 
 use crate::client::serve_client;
-use crate::leaving::leave;
+use crate::leaving::dismiss_client;
 use crate::listener::ClientListener;
 use crate::printing::{print_log, print_port, print_rows, print_session};
 use crate::serve_fault::ServeFault;
@@ -173,19 +173,19 @@ where
         let mut client = self.listener.accept_client()?;
         let (alloc, patience) = (self.alloc, self.plan.patience);
         let served = serve_client(alloc, patience, &mut client, &mut self.primary, crew);
-        if let Some(fault) = ending(served) {
+        if let Some(fault) = ending_fault(served) {
             return print_session(alloc, number, served, &mut self.writer).and(Err(fault));
         }
         finish_session(&mut self.primary, followers, self.plan.saves, crew)?;
         let printed = print_session(alloc, number, served, &mut self.writer);
-        leave(rt, &mut client.reader, served);
+        dismiss_client(rt, &mut client.reader, served);
         self.listener.leave_client(client)?;
         printed
     }
 }
 
 // The fault with which the program ends after such a session, if it does.
-fn ending(served: Result<(), SessionFault>) -> Option<ServeFault>
+fn ending_fault(served: Result<(), SessionFault>) -> Option<ServeFault>
     ensures { MatchOption result (ServerContinues served) (IsEnding served) }
 {
     match served {

@@ -34,14 +34,14 @@ pub(crate) fn finish_session<R: Wait, S: CheckpointStore, K: Keeper, C: Crew>(
     ensures fault { IfErr result (IsFinishFault (C.keeps ≡ false → ¬ HasNoneOut primary.old.node.board)
         saves K.fails) }
 {
-    settle(primary, crew)?;
-    keep(primary)?;
+    settle_log(primary, crew)?;
+    keep_log(primary)?;
     followers.feed(primary.log())?;
     if saves { save(primary) } else { Ok(()) }
 }
 
 // Has the whole log kept.
-fn keep<S: CheckpointStore, K: Keeper>(primary: &mut Primary<S, K>) -> Result<(), ServeFault>
+fn keep_log<S: CheckpointStore, K: Keeper>(primary: &mut Primary<S, K>) -> Result<(), ServeFault>
     ensures kept { OnOk result (K.Keeps primary.new.keeper primary.new.log) }
     ensures unchanged { primary.new ≡ record primary.old { keeper = primary.new.keeper } }
     ensures text { K.opening primary.new.keeper ≡ K.opening primary.old.keeper }
@@ -56,7 +56,7 @@ fn keep<S: CheckpointStore, K: Keeper>(primary: &mut Primary<S, K>) -> Result<()
 }
 
 // Has node 0 execute the whole log.
-fn settle<S: CheckpointStore, K: Keeper, C: Crew>(
+fn settle_log<S: CheckpointStore, K: Keeper, C: Crew>(
     primary: &mut Primary<S, K>,
     crew: &mut C,
 ) -> Result<(), ServeFault>

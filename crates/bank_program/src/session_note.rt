@@ -28,7 +28,7 @@ impl SessionNote {
     }
 
     /// Tells it on standard error. If that fails, the bank is served all the same.
-    pub(crate) fn tell(&self, rt: &HostRuntime) {
+    pub(crate) fn print_to_stderr(&self, rt: &HostRuntime) {
         let _ = eprintln!(rt; "{self}");
     }
 }

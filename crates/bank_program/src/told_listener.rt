@@ -66,7 +66,7 @@ impl<D: ClientListener> ClientListener for ToldListener<D> {
                 written: writer.written,
                 lasted: self.lasted(),
             };
-            SessionNote::new(&self.rt, traffic).tell(&self.rt);
+            SessionNote::new(&self.rt, traffic).print_to_stderr(&self.rt);
         }
         self.inner.leave_client(ClientStream {
             reader: reader.inner,

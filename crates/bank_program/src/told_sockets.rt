@@ -49,7 +49,7 @@ impl<'a, H: Clock> Connections for ToldSockets<'a, H> {
     fn leave(&mut self, place: usize, is_at_fault: bool) {
         if !self.is_quiet {
             if let Some(traffic) = self.inner.traffic(place) {
-                SessionNote::new(&self.rt, traffic).tell(&self.rt);
+                SessionNote::new(&self.rt, traffic).print_to_stderr(&self.rt);
             }
         }
         self.inner.leave(place, is_at_fault);

@@ -56,10 +56,10 @@ impl<'a> Trouble<'a> {
     }
 
     /// Keeps a piece of the input, if it is one.
-    pub(crate) fn keep(&self, device: Device<'a>, piece: &[u8]) {
+    pub(crate) fn keep_input(&self, device: Device<'a>, piece: &[u8]) {
         if device == Device::Input {
             if let Ok(mut input) = self.input.try_borrow_mut() {
-                input.keep(piece);
+                input.extend(piece);
             }
         }
     }

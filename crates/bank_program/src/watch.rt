@@ -31,7 +31,7 @@ impl<R: Read> Read for Watch<'_, '_, R> {
     fn read(&mut self, buf: &mut [u8]) -> io::Result<usize> {
         let done = self.inner.read(buf);
         if let Ok(count) = &done {
-            self.trouble.keep(self.device, &buf[..*count]);
+            self.trouble.keep_input(self.device, &buf[..*count]);
         }
         self.trouble.noted(self.device, done)
     }

@@ -95,7 +95,7 @@ impl<B: Behaviour> Board<B> {
             record { opening = columns; base_replies = replies.items; log = []; states = []; cut = None }) }
     {
         let opening = columns.copy()?;
-        let links = Links::open(alloc, 2 * columns.customers())?;
+        let links = Links::for_cowns(alloc, 2 * columns.customers())?;
         Ok(Board {
             opening,
             columns,
@@ -183,7 +183,7 @@ impl<B: Behaviour> Board<B> {
         if make_room(&mut self.log, &mut self.states, 1).is_err() {
             return Err(SubmitFault::OutOfMemory);
         }
-        if self.links.submit(position, behaviour, unfinished).is_err() {
+        if self.links.enqueue(position, behaviour, unfinished).is_err() {
             return Err(SubmitFault::OutOfMemory);
         }
         self.log.push_reserved(behaviour);
@@ -242,7 +242,7 @@ impl<B: Behaviour> Board<B> {
         let cowns = cowns.as_slice();
         let (reply, outputs) = done.into_effect();
         let outputs = outputs.as_slice();
-        self.links.finish(position, cowns);
+        self.links.release(position, cowns);
         write_cowns(&mut self.columns, cowns, outputs);
         update_cut(&mut self.cut, number, cowns, outputs);
         self.states[position as usize] = State::Finished(reply);
@@ -265,7 +265,7 @@ impl<B: Behaviour> Board<B> {
             return Some(self.base_replies[position as usize]);
         }
         let position = position_of(self.base, self.log.len(), number)?;
-        self.states[position as usize].reply()
+        self.states[position as usize].final_reply()
     }
 
     /// A copy of the columns after the whole log, or `None` while something is unfinished. Fails if

@@ -29,7 +29,7 @@ pub(crate) struct Links {
 
 impl Links {
     // The links of an empty log over this many cowns.
-    pub(crate) fn open(alloc: Global, cowns: usize) -> Result<Links, AllocError>
+    pub(crate) fn for_cowns(alloc: Global, cowns: usize) -> Result<Links, AllocError>
         ensures { IfOk result (λ links. (links.linked ≡ false) × (links.queues.lists ≡ replicate cowns []) ×
             (links.ready.behind.items ≡ []) × (links.ready.ready.items ≡ [])) }
     {
@@ -55,7 +55,7 @@ impl Links {
     // room for linking, handing out and finishing it is made here. If memory is refused, nothing is
     // lost.
     #[inline(always)]
-    pub(crate) fn submit<B: Behaviour>(
+    pub(crate) fn enqueue<B: Behaviour>(
         &mut self,
         position: u64,
         behaviour: B,
@@ -156,7 +156,7 @@ impl Links {
     // Finishes the behaviour at this position, which is out and declares these cowns: those behind
     // it step forward. It allocates nothing.
     #[inline(always)]
-    pub(crate) fn finish(&mut self, position: u64, cowns: &[Cown])
+    pub(crate) fn release(&mut self, position: u64, cowns: &[Cown])
         requires limit { length cowns.now ≤ 3 }
         requires rising { IsRising cowns.now }
         requires front { self.old.linked ≡ true → IsInFront position cowns.now self.old.queues.lists }

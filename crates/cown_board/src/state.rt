@@ -24,7 +24,7 @@ impl State {
     }
 
     // The reply, if it is finished.
-    pub(crate) fn reply(self) -> Option<Reply>
+    pub(crate) fn final_reply(self) -> Option<Reply>
         ensures { result ≡ finished_reply self }
     {
         match self {

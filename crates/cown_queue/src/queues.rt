@@ -42,7 +42,7 @@ impl Queues {
             (λ queues. queues ≡ record { lists = replicate cowns []; reserved = []; places = 0 }) }
     {
         Ok(Queues {
-            tickets: Tickets::open(alloc, cowns)?,
+            tickets: Tickets::new(alloc, cowns)?,
             reserved: Vec::new(alloc),
         })
     }
@@ -51,7 +51,7 @@ impl Queues {
     pub fn cowns(&self) -> usize
         ensures { result ≡ length self.now.lists }
     {
-        self.tickets.cowns()
+        self.tickets.queues()
     }
 
     /// The number of tickets that there are places for: at least one for each number in each queue,

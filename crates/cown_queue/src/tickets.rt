@@ -59,7 +59,7 @@ impl Model for Tickets {
 
 impl Tickets {
     /// No tickets at this many cowns.
-    pub(crate) fn open(alloc: Global, cowns: usize) -> Result<Tickets, AllocError>
+    pub(crate) fn new(alloc: Global, cowns: usize) -> Result<Tickets, AllocError>
         ensures { IfOk result
             (λ tickets. tickets ≡ record { lists = replicate cowns []; free = 0; places = 0 }) }
     {
@@ -79,7 +79,7 @@ impl Tickets {
     }
 
     /// The number of cowns.
-    pub(crate) fn cowns(&self) -> usize
+    pub(crate) fn queues(&self) -> usize
         ensures { result ≡ length self.now.lists }
     {
         self.ends.len()

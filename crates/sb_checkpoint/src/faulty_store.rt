@@ -64,7 +64,7 @@ impl FaultyStore {
     }
 
     // Counts the failure of the device at this call.
-    fn count_failure(&mut self) -> StoreFault
+    fn count_failed_call(&mut self) -> StoreFault
         ensures fault { result ≡ Device }
         ensures state { self.new ≡ record self.old {
           inner = record self.old.inner { failures = saturating_increment self.old.inner.failures };
@@ -84,7 +84,7 @@ impl CheckpointStore for FaultyStore {
             if self.leaves == Version::New {
                 self.inner.set_content(bytes)?;
             }
-            return Err(self.count_failure());
+            return Err(self.count_failed_call());
         }
         let done = self.inner.put(bytes);
         match done {
@@ -96,7 +96,7 @@ impl CheckpointStore for FaultyStore {
 
     fn get(&mut self) -> Result<Option<Vec<u8>>, StoreFault> {
         if self.at == 1 {
-            return Err(self.count_failure());
+            return Err(self.count_failed_call());
         }
         let content = self.inner.get()?;
         self.count();

@@ -10,7 +10,7 @@ use sb_calls::Reply;
 
 // Appends bytes, for which there is room.
 #[inline]
-pub(crate) fn put(out: &mut Vec<u8>, bytes: &[u8])
+pub(crate) fn put_bytes(out: &mut Vec<u8>, bytes: &[u8])
     requires { vec_len out.old + length bytes.now ≤ vec_capacity out.old }
     ensures { PutsField out.old bytes.now (length bytes.now) out.new }
 {
@@ -23,7 +23,7 @@ pub(crate) fn put_length(out: &mut Vec<u8>, length: u64)
     requires { vec_len out.old + 8 ≤ vec_capacity out.old }
     ensures { PutsField out.old (integer_field w64 length) 8 out.new }
 {
-    put(out, &length.to_be_bytes());
+    put_bytes(out, &length.to_be_bytes());
 }
 
 #[inline]
@@ -32,7 +32,7 @@ pub(crate) fn put_customers(out: &mut Vec<u8>, customers: u32)
     requires { vec_len out.old + 4 ≤ vec_capacity out.old }
     ensures { PutsField out.old (integer_field w32 customers) 4 out.new }
 {
-    put(out, &customers.to_be_bytes());
+    put_bytes(out, &customers.to_be_bytes());
 }
 
 #[inline]
@@ -41,7 +41,7 @@ pub(crate) fn put_amount(out: &mut Vec<u8>, amount: i64)
     requires { vec_len out.old + AMOUNT ≤ vec_capacity out.old }
     ensures { PutsField out.old (amount_field amount) AMOUNT out.new }
 {
-    put(out, &amount.to_be_bytes());
+    put_bytes(out, &amount.to_be_bytes());
 }
 
 pub(crate) fn put_amounts(out: &mut Vec<u8>, amounts: &[i64])
@@ -63,5 +63,5 @@ pub(crate) fn put_reply(out: &mut Vec<u8>, reply: Reply)
     let (code, total) = reply.code_and_total();
     let mut cells = [code; REPLY];
     cells[1..].copy_from_slice(&total.to_be_bytes());
-    put(out, &cells);
+    put_bytes(out, &cells);
 }

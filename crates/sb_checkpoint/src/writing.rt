@@ -6,7 +6,7 @@ ghost use Rattle.sb_calls.specs.declared.reply.Reply.{Reply as AnyReply};
 ghost use Rattle.sb_checkpoint.specs.Checkpoint.{SpellsInLayout, Second};
 
 use crate::layout::{BALANCES, EMPTY_SECOND, MAGIC_SECOND, REPLY};
-use crate::putting::{put, put_amount, put_amounts, put_customers, put_length, put_reply};
+use crate::putting::{put_amount, put_amounts, put_bytes, put_customers, put_length, put_reply};
 use lane_audit::bank_total;
 use sb_calls::{LOG_CALLS, Reply};
 use sb_rows::Columns;
@@ -72,7 +72,7 @@ impl Draft {
         let customers = columns.customers();
         let size = EMPTY_SECOND + BALANCES * customers + REPLY * replies;
         let mut bytes = Vec::with_capacity(alloc, size)?;
-        put(&mut bytes, &MAGIC_SECOND);
+        put_bytes(&mut bytes, &MAGIC_SECOND);
         put_length(&mut bytes, replies as u64);
         put_customers(&mut bytes, customers as u32);
         put_amounts(&mut bytes, columns.savings());

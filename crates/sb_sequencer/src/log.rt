@@ -58,7 +58,7 @@ impl Log {
     }
 
     // The key and the call at an index, if there are any.
-    pub(crate) fn entry(&self, index: usize) -> Option<(Key, Call)>
+    pub(crate) fn keyed_call(&self, index: usize) -> Option<(Key, Call)>
         ensures { result ≡ slice_get self.now index }
     {
         let Some(call) = self.get(index) else {

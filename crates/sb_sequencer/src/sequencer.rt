@@ -114,7 +114,7 @@ impl Sequencer {
         ensures { result ≡ ask_of_number self.now.log number }
     {
         let index = number.checked_sub(1)?;
-        self.log.entry(index as usize)
+        self.log.keyed_call(index as usize)
     }
 
     /// The calls of the log, in order.

@@ -46,7 +46,7 @@ impl Model for DurableSequencer {
 
 // Makes room in the file for an ask, if it is to be numbered: its key is new, and the log takes one
 // more call.
-fn make_room(
+fn reserve_record(
     log: &mut MemoryLog,
     sequencer: &Sequencer,
     client: u32,
@@ -98,7 +98,7 @@ impl DurableSequencer {
         ensures state { self.new ≡ after_append self.old
             (record { client = client; request = request }, call.now) result }
     {
-        if make_room(&mut self.log, &self.sequencer, client, request).is_err() {
+        if reserve_record(&mut self.log, &self.sequencer, client, request).is_err() {
             return Err(AskFault::OutOfMemory);
         }
         let answer = self.sequencer.ask(client, request, call);

@@ -1,5 +1,5 @@
 -- How far a client's run has come.
-use Rattle.std.specs.Prelude.{◌≡◌, ◌≢◌, ℕ, ◌+◌, ◌-◌, ◌≤◌, ◌^◌, Option, Some, None, Result, Ok, Err, List, [], ◌∷◌, ◌++◌, length, MatchResult}
+use Rattle.std.specs.Prelude.{◌≡◌, ◌≢◌, ℕ, ◌+◌, ◌-◌, ◌≤◌, ◌^◌, Option, Some, None, Result, Ok, Err, List, [], ◌++◌, length, MatchResult}
 use Rattle.sb_rows.specs.Text.{lines, unlines}
 use Rattle.sb_calls.specs.Call.{call_of}
 use Rattle.sb_calls.specs.declared.call.Call.{Call}

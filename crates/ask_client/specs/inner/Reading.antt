@@ -1,5 +1,5 @@
 -- The rest of an input that is no whole line yet.
-use Rattle.std.specs.Prelude.{◌≡◌, ℕ, List, [], ◌∷◌, ◌++◌, length}
+use Rattle.std.specs.Prelude.{◌≡◌, ℕ, List, [], ◌∷◌, length}
 use Rattle.std.specs.List.{position_or_len}
 use Rattle.sb_rows.specs.Text.{is_line_feed}
 

@@ -5,7 +5,7 @@ use Rattle.sb_frames.specs.declared.frame.AskOutcome.{AskOutcome}
 use Rattle.sb_frames.specs.declared.frame.Frame.{Frame}
 use Rattle.sb_frames.specs.declared.frame.Frame.TheVariants.{Outcome}
 use Rattle.ask_client.specs.Batches.{BatchOf, after_outcomes}
-use Rattle.ask_client.specs.Conversations.{EndsTalk, IsNoOutcome, TellsFirst}
+use Rattle.ask_client.specs.Conversations.{IsNoOutcome, TellsFirst}
 use Rattle.ask_client.specs.OutcomeLines.{outcome_line}
 use Rattle.ask_client.specs.declared.talk_fault.TalkFault.{TalkFault}
 use Rattle.ask_client.specs.declared.talk_fault.TalkFault.TheVariants.{Connection, Unexpected, OutOfMemory}

@@ -14,7 +14,7 @@ use schedule_text::Note;
 
 impl World {
     /// Asks the sequencer for the donor of a replica's state.
-    pub(crate) fn donor(&self, replica: u32) -> Note
+    pub(crate) fn note_donor(&self, replica: u32) -> Note
         ensures { IsDonorNote self.now.sequencer.synced replica result }
     {
         let sequencer = &self.sequencer;

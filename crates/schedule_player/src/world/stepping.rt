@@ -39,7 +39,7 @@ impl World {
             SystemEvent::Sync => Ok(self.sync_log()),
             SystemEvent::Crash { kept } => self.restart_sequencer(kept),
             SystemEvent::From { replica, position } => Ok(self.deliver_report(replica, position)),
-            SystemEvent::Donor { replica } => Ok(self.donor(replica)),
+            SystemEvent::Donor { replica } => Ok(self.note_donor(replica)),
             SystemEvent::Give { donor, replica } => self.give(donor, replica),
             SystemEvent::Audit { first, second } => self.compare(first, second),
         }

@@ -38,8 +38,8 @@ returns g c =
     let text = g.O.Write.contents c.args.output.now in
     let start = ask_start plan.client plan.first first_streams text in
     let state = ask_state (g.D.Dialer.streams run.dialer) run.self.stream run.self.batch (g.O.Write.contents run.output) in
-    asks_some rem start c.in-Err.fault state (g.D.Dialer.streams c.leave.new.dialer)
-    (λ told brings. c.leave.ensures plan.client first_streams plan.first told brings)
+    asks_some rem start c.in-Err.fault state (g.D.Dialer.streams c.leave_server.new.dialer)
+    (λ told brings. c.leave_server.ensures plan.client first_streams plan.first told brings)
     (g.I.Read.remaining c.args.input.now)
     (c.in-Err.ensures.run start (ap (λ (p : AskPlan). p.first) (sym c.new-asker.ensures.plan))
     (begins rem plan.client plan.first first_streams new.stream new.batch text c.new-asker.ensures.stream c.new-asker.ensures.batch))

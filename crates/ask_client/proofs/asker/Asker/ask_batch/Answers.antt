@@ -1,6 +1,6 @@
-use Rattle.std.proofs.Common.{arith, refl, Ok, Err, ◌∙◌}
+use Rattle.std.proofs.Common.{arith, refl}
 use Rattle.ask_client.specs.inner.Progress.{ask_state}
-use Rattle.ask_client.proofs.MoreTold.{tells_none, tells_then}
+use Rattle.ask_client.proofs.MoreTold.{tells_none}
 use Rattle.ask_client.proofs.asker.Asker.ask_batch.Goals as goal
 
 pub loop-init : goal.loop-init

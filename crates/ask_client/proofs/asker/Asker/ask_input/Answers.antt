@@ -1,4 +1,4 @@
-use Rattle.std.proofs.Common.{◌≡◌, ◌++◌, ℕ, List, [], take, refl, ap, subst, sym, ◌∙◌, rules}
+use Rattle.std.proofs.Common.{◌++◌, ℕ, List, [], take, refl, ap, subst, sym, ◌∙◌, rules}
 use Rattle.std.specs.Io.KnownBytes.{IsAtEnd}
 use Rattle.std.proofs.KnownBytes.{Consumes-kept, Consumes-nil, Consumes-trans}
 use Rattle.std.proofs.lemmas.Result.{err_from_is_err_and}

@@ -1,4 +1,4 @@
-use Rattle.std.proofs.Common.{◌≡◌, ◌∷◌, ℕ, Option, List, refl, subst, sym}
+use Rattle.std.proofs.Common.{◌∷◌, refl, subst, sym}
 use Rattle.std.proofs.lemmas.Result.{err_from_is_err_and}
 use Rattle.ask_client.specs.Batches.{BatchOf}
 use Rattle.ask_client.specs.inner.Progress.{IsLineFault, ask_state}

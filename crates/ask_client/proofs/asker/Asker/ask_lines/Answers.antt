@@ -1,11 +1,11 @@
-use Rattle.std.proofs.Common.{◌≡◌, ◌+◌, ◌<◌, ◌++◌, ℕ, Some, None, List, drop, length, refl, ap, subst, sym, ◌∙◌, arith, length-drop}
+use Rattle.std.proofs.Common.{◌+◌, ◌<◌, ◌++◌, ℕ, Some, None, List, drop, length, refl, ap, subst, sym, ◌∙◌, arith, length-drop}
 use Rattle.std.proofs.lemmas.List.{drop-drop}
 use Rattle.std.proofs.lemmas.Result.{err_from_is_err_and}
 use Rattle.memchr.specs.Find.{IsFirstByte}
 use Rattle.sb_rows.specs.Text.{is_line_feed, lines}
 use Rattle.sb_rows.proofs.SplitAtFirstByte.{to_end}
 use Rattle.ask_client.specs.declared.plan.AskPlan.{AskPlan}
-use Rattle.ask_client.specs.inner.Progress.{HasAsked, ask_state}
+use Rattle.ask_client.specs.inner.Progress.{ask_state}
 use Rattle.ask_client.proofs.Asked.{batch_asked, batch_stopped, behind_so, line_behind}
 use Rattle.ask_client.proofs.LineEnds.{no_end}
 use Rattle.ask_client.proofs.asker.Asker.ask_lines.Goals as goal

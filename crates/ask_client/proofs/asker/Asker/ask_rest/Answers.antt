@@ -1,9 +1,8 @@
-use Rattle.std.proofs.Common.{◌≡◌, ◌++◌, ℕ, List, [], length, ap, subst, sym, ◌∙◌}
+use Rattle.std.proofs.Common.{◌++◌, ℕ, List, [], length, ap, subst, sym, ◌∙◌}
 use Rattle.std.specs.Prelude.{◌≢◌}
 use Rattle.std.proofs.lemmas.Bool.{eqb-false}
 use Rattle.sb_rows.specs.Text.{lines}
 use Rattle.ask_client.specs.inner.Progress.{HasAsked, ask_state}
-use Rattle.ask_client.specs.inner.Reading.{last_lines}
 use Rattle.ask_client.proofs.Asked.{batch_over}
 use Rattle.ask_client.proofs.LineEnds.{one_last}
 use Rattle.ask_client.proofs.asker.Asker.ask_rest.Goals as goal

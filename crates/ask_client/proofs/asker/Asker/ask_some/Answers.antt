@@ -1,7 +1,6 @@
-use Rattle.std.proofs.Common.{arith, refl, Ok, Err, ◌∙◌}
-use Rattle.std.proofs.lemmas.Result.{err_from_is_err_and}
+use Rattle.std.proofs.Common.{arith, refl, Ok, ◌∙◌}
 use Rattle.ask_client.specs.inner.Progress.{ask_state}
-use Rattle.ask_client.proofs.MoreTold.{tells_none, tells_then, tells_until}
+use Rattle.ask_client.proofs.MoreTold.{tells_none, tells_then}
 use Rattle.ask_client.proofs.asker.Asker.ask_some.Goals as goal
 
 pub loop-init : goal.loop-init

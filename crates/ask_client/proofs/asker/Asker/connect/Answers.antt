@@ -1,4 +1,4 @@
-use Rattle.std.proofs.Common.{◌≡◌, Option, None, subst, sym, ◌∙◌}
+use Rattle.std.proofs.Common.{Option, subst, sym, ◌∙◌}
 use Rattle.ask_client.specs.inner.Progress.{BringsSoFar}
 use Rattle.ask_client.specs.declared.server_stream.ServerStream.{ServerStream}
 use Rattle.ask_client.proofs.Connections.{one_made}

@@ -1,4 +1,4 @@
-use Rattle.std.proofs.Common.{◌≡◌, Option, Some, List, [], append-nil, subst, sym, ◌∙◌}
+use Rattle.std.proofs.Common.{Option, List, [], append-nil, subst, sym, ◌∙◌}
 use Rattle.sb_frames.specs.declared.frame.AskOutcome.{AskOutcome}
 use Rattle.ask_client.specs.Asking.{LeavesAll}
 use Rattle.ask_client.specs.Connections.{BringsAll}

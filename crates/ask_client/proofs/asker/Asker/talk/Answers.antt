@@ -1,4 +1,4 @@
-use Rattle.std.proofs.Common.{◌≡◌, Option, None, List, ℕ, [], subst, sym, Ok, Err}
+use Rattle.std.proofs.Common.{Option, List, ℕ, subst, sym, Ok, Err}
 use Rattle.ask_client.specs.Conversations.{Hears}
 use Rattle.ask_client.specs.declared.server_stream.ServerStream.{ServerStream}
 use Rattle.ask_client.specs.inner.Progress.{TellsOver}

@@ -1,4 +1,4 @@
-use Rattle.std.proofs.Common.{◌≡◌, ◌+◌, List, sym, ap, ◌∙◌}
+use Rattle.std.proofs.Common.{◌+◌, List, sym, ap, ◌∙◌}
 use Rattle.std.proofs.lemmas.List.{drop-drop}
 use Rattle.sb_calls.specs.declared.call.Call.{Call}
 use Rattle.ask_client.specs.Batches.{BatchOf, after_outcomes}

@@ -54,27 +54,27 @@ returns-then-not-is_out_at-clause-accepted g c =
 pub returns-then-not-is_out_at-clause-outcome : goal.returns-then-not-is_out_at-clause-outcome
 returns-then-not-is_out_at-clause-outcome g c = (refl, refl)
 
-pub finish-requires-clause-rising : goal.finish-requires-clause-rising
-finish-requires-clause-rising g c =
-    subst IsRising (sym (declared g (goal.at.finish-requires-clause-rising g c).After-as_slice-cowns)) (g.met.B.Behaviour.rising c.args.done.behaviour)
+pub release-requires-clause-rising : goal.release-requires-clause-rising
+release-requires-clause-rising g c =
+    subst IsRising (sym (declared g (goal.at.release-requires-clause-rising g c).After-as_slice-cowns)) (g.met.B.Behaviour.rising c.args.done.behaviour)
 
-pub finish-requires-clause-front : goal.finish-requires-clause-front
-finish-requires-clause-front g c linked =
-    let known = (goal.at.finish-requires-clause-front g c).After-as_slice-cowns in
+pub release-requires-clause-front : goal.release-requires-clause-front
+release-requires-clause-front g c linked =
+    let known = (goal.at.release-requires-clause-front g c).After-as_slice-cowns in
     subst (λ cowns. IsInFront c.in-Some.position cowns c.self.inside.links.queues.lists) (sym (declared g known))
     (released_in_front g.B.Behaviour.touches g.B.Behaviour.effect c.self.invariant c.in-Some.position c.args.done (numbered g known)
     (c.is_out_at.ensures.0 c.if-not-is_out_at.false) linked)
 
-pub finish-requires-clause-behind : goal.finish-requires-clause-behind
-finish-requires-clause-behind g c linked new released k =
-    let known = (goal.at.finish-requires-clause-behind g c).After-as_slice-cowns in
+pub release-requires-clause-behind : goal.release-requires-clause-behind
+release-requires-clause-behind g c linked new released k =
+    let known = (goal.at.release-requires-clause-behind g c).After-as_slice-cowns in
     rw (declared g known) (fronts_behind g.B.Behaviour.touches g.B.Behaviour.effect c.self.invariant c.in-Some.position c.args.done
     (numbered g known) (c.is_out_at.ensures.0 c.if-not-is_out_at.false) g.met.B.Behaviour.rising c.into_effect-reply.result.0 linked new
     (subst (λ cowns. Releases cowns c.self.inside.links.queues.lists new) (declared g known) released) k)
 
-pub finish-requires-clause-room : goal.finish-requires-clause-room
-finish-requires-clause-room g c =
-    let known = (goal.at.finish-requires-clause-room g c).After-as_slice-cowns in
+pub release-requires-clause-room : goal.release-requires-clause-room
+release-requires-clause-room g c =
+    let known = (goal.at.release-requires-clause-room g c).After-as_slice-cowns in
     let room = room_for_fronts g.B.Behaviour.touches g.B.Behaviour.effect c.self.invariant c.in-Some.position c.args.done
     (numbered g known) (c.is_out_at.ensures.0 c.if-not-is_out_at.false) in
     omega (arith, room, c.self.inside.links.ready.ready.ok)
@@ -132,17 +132,17 @@ invariant_of-self g c =
     let known = (goal.at.invariant_of-self g c).After-as_slice-cowns in
     let lists = c.self.inside.links.queues.lists in
     let values = c.as_slice-outputs.result.now in
-    let links = c.finish.new.self in
+    let links = c.release.new.self in
     board_finished touches g.B.Behaviour.effect c.self.invariant c.in-Some.position c.args.done
     (numbered g known) (c.is_out_at.ensures.0 c.if-not-is_out_at.false) g.met.B.Behaviour.valid_outputs g.met.B.Behaviour.rising
     c.into_effect-reply.result.0 values c.write_cowns.new.columns links
     c.into_effect-reply.ensures.reply (c.as_slice-outputs.ensures.value ∙ c.into_effect-reply.ensures.outputs)
     (c.write_cowns.ensures ∙ ap (λ cowns. write_cowns (contents_of c.self.inside.columns) cowns values) (declared g known))
-    c.finish.ensures.linked c.finish.ensures.unchanged
-    (λ is. subst (λ cowns. Releases cowns lists links.queues.lists) (declared g known) (c.finish.ensures.released is))
+    c.release.ensures.linked c.release.ensures.unchanged
+    (λ is. subst (λ cowns. Releases cowns lists links.queues.lists) (declared g known) (c.release.ensures.released is))
     (λ is. subst (λ cowns. ComesForward (fronts_of links.queues.lists cowns) c.self.inside.links.ready links.ready) (declared g known)
-    (c.finish.ensures.forward is))
-    c.finish.ensures.room c.update_cut.new.cut
+    (c.release.ensures.forward is))
+    c.release.ensures.room c.update_cut.new.cut
     (subst (λ number. UpdatesAnyCut number (touches c.args.done.behaviour) values c.self.inside.cut c.update_cut.new.cut) c.number-number.ensures
     (subst (λ cowns. UpdatesAnyCut c.number-number.result cowns values c.self.inside.cut c.update_cut.new.cut) (declared g known) c.update_cut.ensures))
 

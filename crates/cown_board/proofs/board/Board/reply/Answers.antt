@@ -43,7 +43,7 @@ returns-clause-value g c =
     let state : slice_get states c.in_ok-position-2.position ≡ Some c.index-2.result.now =
     slice_get_read states (length states) c.in_ok-position-2.position c.index-2.result.now refl
     (omega (arith, c.in_ok-position-2.ensures.0, c.len.ensures, c.self.inside.log.ok, board.keeps.same_length)) c.index-2.ensures in
-    c.reply.ensures
+    c.final_reply.ensures
     ∙ subst (λ (v : BoardOf g.row.B.Denot). finished_reply c.index-2.result.now ≡ reply_in v c.args.number) c.self.view_is
     (reply_at_place (seen g.B.Behaviour.touches g.B.Behaviour.effect board) c.args.number c.in_ok-position-2.position c.index-2.result.now
     (omega (arith, c.in_ok-position-2.ensures.1, board.base_length)) state)
@@ -57,8 +57,8 @@ returns-clause-by_log g c =
     let state : slice_get states c.in_ok-position-2.position ≡ Some c.index-2.result.now =
     slice_get_read states (length states) c.in_ok-position-2.position c.index-2.result.now refl
     (omega (arith, c.in_ok-position-2.ensures.0, c.len.ensures, c.self.inside.log.ok, board.keeps.same_length)) c.index-2.ensures in
-    subst (λ (v : BoardOf g.row.B.Denot). IfSome c.reply.result
+    subst (λ (v : BoardOf g.row.B.Denot). IfSome c.final_reply.result
     (λ reply. length v.base_replies < c.args.number
     → reply_by_log touches effect (contents_of v.opening) v.log (c.args.number - length v.base_replies) ≡ Some reply)) c.self.view_is
-    (reply_is_by_log touches effect board c.args.number c.in_ok-position-2.position c.index-2.result.now c.reply.result c.in_ok-position-2.ensures.1 state
-    c.reply.ensures)
+    (reply_is_by_log touches effect board c.args.number c.in_ok-position-2.position c.index-2.result.now c.final_reply.result c.in_ok-position-2.ensures.1 state
+    c.final_reply.ensures)

@@ -22,19 +22,19 @@ on_ok : {T E P : Type 0} (r : Result T E) → is_err r ≡ false → OnOk r P �
 on_ok (Ok value) is p = p
 on_ok (Err fault) is p = absurd (false≢true (sym is))
 
-pub submit-requires-clause-cowns : goal.submit-requires-clause-cowns
-submit-requires-clause-cowns g c =
+pub enqueue-requires-clause-cowns : goal.enqueue-requires-clause-cowns
+enqueue-requires-clause-cowns g c =
     let touches = g.B.Behaviour.touches in
     rw (one_each touches g.B.Behaviour.effect c.self.invariant)
     (subst (λ (v : BoardOf g.row.B.Denot). AreBelow (length (contents_of v.opening)) (touches c.args.behaviour)) (sym c.self.view_is) c.requires)
 
-pub submit-requires-clause-counts : goal.submit-requires-clause-counts
-submit-requires-clause-counts g c is =
+pub enqueue-requires-clause-counts : goal.enqueue-requires-clause-counts
+enqueue-requires-clause-counts g c is =
     let counted = (c.self.invariant.links.linked is).counts.same_length in
     omega (arith, counted, c.self.inside.links.ready.behind.ok, c.self.inside.log.ok, c.len-position.ensures)
 
-pub submit-requires-clause-ready : goal.submit-requires-clause-ready
-submit-requires-clause-ready g c is =
+pub enqueue-requires-clause-ready : goal.enqueue-requires-clause-ready
+enqueue-requires-clause-ready g c is =
     let few = few_ready g.B.Behaviour.touches g.B.Behaviour.effect c.self.invariant is in
     omega (arith, few, c.self.inside.links.ready.ready.ok)
 
@@ -45,8 +45,8 @@ pub invariant_of-self-then-is_err-2 : goal.invariant_of-self-then-is_err-2
 invariant_of-self-then-is_err-2 g c =
     let room = c.make_room.ensures in
     rw (room.log.0, room.states.0)
-    (IsBoard-stays g.B.Behaviour.touches g.B.Behaviour.effect c.self.invariant c.submit.new.self c.submit.ensures.room
-    (on_err c.submit.result (sym c.is_err-2.ensures.value ∙ c.if-is_err-2.true) c.submit.ensures.err))
+    (IsBoard-stays g.B.Behaviour.touches g.B.Behaviour.effect c.self.invariant c.enqueue.new.self c.enqueue.ensures.room
+    (on_err c.enqueue.result (sym c.is_err-2.ensures.value ∙ c.if-is_err-2.true) c.enqueue.ensures.err))
 
 pub push_reserved-requires : goal.push_reserved-requires
 push_reserved-requires g c =
@@ -62,15 +62,15 @@ invariant_of-self-2 g c =
     let effect = g.B.Behaviour.effect in
     let room = c.make_room.ensures in
     let links = c.self.inside.links in
-    let new = c.submit.new.self in
+    let new = c.enqueue.new.self in
     let position : c.len-position.result ≡ length c.self.inside.log.items = omega (arith, c.len-position.ensures, room.log.1, c.self.inside.log.ok) in
     let below : AreBelow (length (contents_of c.self.inside.opening)) (touches c.args.behaviour) =
     subst (λ (v : BoardOf g.row.B.Denot). AreBelow (length (contents_of v.opening)) (touches c.args.behaviour)) (sym c.self.view_is) c.requires in
-    let put = on_ok c.submit.result (sym c.is_err-2.ensures.value ∙ c.if-is_err-2.false) c.submit.ensures.ok in
+    let put = on_ok c.enqueue.result (sym c.is_err-2.ensures.value ∙ c.if-is_err-2.false) c.enqueue.ensures.ok in
     IsBoard-pushed touches effect c.self.invariant c.args.behaviour c.push_reserved.new.self.items c.push_reserved-2.new.self.items new below
     (c.push_reserved.ensures.items ∙ ap (λ (xs : List g.row.B.Denot). xs ++ c.args.behaviour ∷ []) room.log.0)
     (c.push_reserved-2.ensures.items ∙ ap (λ xs. xs ++ Waiting ∷ []) room.states.0)
-    (links_submitted touches effect c.self.invariant c.args.behaviour new below c.submit.ensures.room.linked
+    (links_submitted touches effect c.self.invariant c.args.behaviour new below c.enqueue.ensures.room.linked
     (λ is. subst (λ n. AddsToLinks n (touches c.args.behaviour) links new) position (put.linked is))
     put.unlinked (subst (λ n. n + 1 ≤ vec_capacity new.ready.behind) position put.counts) put.ready)
     c.if-self-eq-OPEN_BEHAVIOURS.false

@@ -17,7 +17,7 @@ pub returns-clause-begins : goal.returns-clause-begins
 unfolding checkpoint_spelling
 returns-clause-begins c all same valid =
     let total_fits : FitsSigned w64 c.bank_total.result = record { sfits = c.bank_total.type_inv } in
-    let begins = c.put.ensures.items ∙ ap (λ front. front ++ magic Second) c.in_ok-bytes.ensures.items in
+    let begins = c.put_bytes.ensures.items ∙ ap (λ front. front ++ magic Second) c.in_ok-bytes.ensures.items in
     let size = goes_on _ _ _ _ _ c.put_length.ensures.items begins (ap (integer_field w64) (sym same)) in
     let customers = goes_on _ _ _ _ _ c.put_customers.ensures.items size (ap (integer_field w32) c.customers-customers.ensures.value) in
     let savings = goes_on _ _ _ _ _ c.put_amounts.ensures.items customers (ap (flat_map amount_field) c.savings.ensures) in

@@ -2,7 +2,7 @@ use Rattle.std.proofs.Common.{slice_get, ap, sym, ◌∙◌, arith}
 use Rattle.std.specs.Option.{option_copied}
 use Rattle.std.proofs.lemmas.Option.{slice_get-map}
 use Rattle.sb_sequencer.proofs.LogColumns.{columns, key_within, none_at, some_at}
-use Rattle.sb_sequencer.proofs.log.Log.entry.Goals as goal
+use Rattle.sb_sequencer.proofs.log.Log.keyed_call.Goals as goal
 
 pub returns-in_default : goal.returns-in_default
 returns-in_default c = none_at (slice_get c.args.self.now c.args.index) c.in_default.ensures

@@ -1,6 +1,6 @@
 use Rattle.std.proofs.Common.{◌≡◌, ℕ, List, ◌++◌}
 use Rattle.std.specs.Io.KnownBytes.{Appends}
-use Rattle.ask_client.proofs.sending.put.Given as goal
+use Rattle.ask_client.proofs.sending.write_all.Given as goal
 
 -- a first part is written, and the rest is left
 abbrev pub invariant-loop : goal.invariant-loop

@@ -3,7 +3,7 @@ use Rattle.std.proofs.lemmas.List.{take_all}
 use Rattle.cown_queue.proofs.TicketSteps.{Becomes, opened}
 use Rattle.cown_queue.specs.declared.tickets.Ends.{Ends}
 use Rattle.cown_queue.specs.declared.tickets.TheConstants.{NONE}
-use Rattle.cown_queue.proofs.tickets.Tickets.open.Goals as goal
+use Rattle.cown_queue.proofs.tickets.Tickets.new.Goals as goal
 
 -- all cowns are idle
 idle : (ends new : List Ends) (cowns long : ℕ) (e : Ends) → ends ≡ [] → long ≡ 0 → new ≡ take cowns ends ++ replicate (cowns - long) e

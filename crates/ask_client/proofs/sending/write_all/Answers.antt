@@ -3,8 +3,8 @@ use Rattle.std.proofs.KnownBytes.{Appends-kept, Appends-trans}
 use Rattle.std.proofs.lemmas.List.{take-append-drop}
 use Rattle.std.specs.Borrow.{Bor}
 use Rattle.sb_rows.proofs.SplitAtFirstByte.{to_end}
-use Rattle.ask_client.proofs.sending.put.Goals as goal
-use Rattle.ask_client.proofs.sending.put.Goals.{in-Ok, in-Err+else-ne}
+use Rattle.ask_client.proofs.sending.write_all.Goals as goal
+use Rattle.ask_client.proofs.sending.write_all.Goals.{in-Ok, in-Err+else-ne}
 
 pub loop-preserved : goal.loop-preserved
 loop-preserved g c =

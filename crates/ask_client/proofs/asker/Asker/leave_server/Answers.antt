@@ -1,4 +1,4 @@
-use Rattle.std.proofs.Common.{◌≡◌, Option, Some, [], append-nil, subst, sym, ◌∙◌}
+use Rattle.std.proofs.Common.{Option, [], append-nil, subst, sym, ◌∙◌}
 use Rattle.std.proofs.KnownBytes.{Consumes-nil}
 use Rattle.sb_frames.specs.declared.frame.AskOutcome.{AskOutcome}
 use Rattle.std.proofs.Common.{List}
@@ -6,7 +6,7 @@ use Rattle.ask_client.specs.Connections.{BringsAll}
 use Rattle.ask_client.specs.inner.Progress.{BringsSoFar}
 use Rattle.ask_client.specs.declared.server_stream.ServerStream.{ServerStream}
 use Rattle.ask_client.proofs.Connections.{open_left}
-use Rattle.ask_client.proofs.asker.Asker.leave.Goals as goal
+use Rattle.ask_client.proofs.asker.Asker.leave_server.Goals as goal
 
 pub returns-in-Some : goal.returns-in-Some
 returns-in-Some g c client start first told brings =

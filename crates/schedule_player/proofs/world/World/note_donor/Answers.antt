@@ -1,6 +1,6 @@
 use Rattle.std.proofs.Common.{ap, arith, length}
 use Rattle.schedule_player.proofs.checkpoints.WorldStates.{no_donor}
-use Rattle.schedule_player.proofs.world.World.donor.Goals as goal
+use Rattle.schedule_player.proofs.world.World.note_donor.Goals as goal
 
 pub returns-in_default : goal.returns-in_default
 returns-in_default c donor size =
