@@ -100,12 +100,11 @@ fn a_crash_keeps_up_to_a_number(rt: HostRuntime) {
     }
 }
 
-#[test]
-fn replicas_outlive_the_sequencer(rt: HostRuntime) {
-    let mut world = world_of(&rt, rt.alloc(), 2, 1);
+// A replica executes an entry, marks and reports it, and then the sequencer crashes and knows nothing of that.
+fn crash_after_a_report(rt: &impl Abort, world: &mut World) {
     all_happen(
-        &rt,
-        &mut world,
+        rt,
+        world,
         &[
             ("ask 1 1 deposit alice 1.00", Note::New(1)),
             ("append 1 2 deposit alice 2.00", Note::New(2)),
@@ -125,6 +124,12 @@ fn replicas_outlive_the_sequencer(rt: HostRuntime) {
             ("take 0 1 0", Note::Nothing),
         ],
     );
+}
+
+#[test]
+fn replicas_outlive_the_sequencer(rt: HostRuntime) {
+    let mut world = world_of(&rt, rt.alloc(), 2, 1);
+    crash_after_a_report(&rt, &mut world);
     assert!(rt; world.answer_of(1, 1).is_none());
     stands_at(&rt, &world, 0, 1, true);
     replies(&rt, &world, 0, 1, Some(Reply::Done));
