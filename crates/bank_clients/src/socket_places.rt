@@ -186,6 +186,9 @@ impl SocketPlaces {
     // Looks at the guest at a place: whether it is a client from now on, or is closed, or neither by now.
     fn look_at(&mut self, place: usize) -> Option<bool> {
         let slot = self.slot(place)?;
+        if !slot.is_guest {
+            return None;
+        }
         slot.is_listed = false;
         let is_client = slot.has_failed || slot.has_spoken()?;
         if is_client {
@@ -225,6 +228,10 @@ impl SocketPlaces {
         ensures { IfSome result (λ read. IfSome read (λ count. count ≤ length chunk.new)) }
     {
         let slot = self.slot(place)?;
+        // A place that was listed may be a guest's by now. It is looked at first, and nothing is taken from it.
+        if slot.is_guest {
+            return None;
+        }
         slot.is_listed = false;
         if slot.has_failed {
             return Some(None);
