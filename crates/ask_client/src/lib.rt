@@ -14,8 +14,6 @@ mod sending;
 mod server_stream;
 mod socket_dialer;
 mod talk_fault;
-#[cfg(test)]
-mod tests;
 
 pub use ask_fault::AskFault;
 pub use asking::ask_all;

@@ -14,11 +14,10 @@ pub(crate) struct SocketPlaces {
     slots: Vec<Option<Slot>>,
     // The places without a client.
     free: Vec<usize>,
-    // The places that are read in this turn, and those that are read in the next. A place stands there
-    // once at most, so there is always room.
+    // The places that are read in this turn, those that are read in the next, and those of guests who are looked
+    // at next. A place stands in one of them once if its socket is listed, else in none: so there is always room.
     ready: Vec<usize>,
     later: Vec<usize>,
-    // The places of guests who are looked at next. A place stands there once at most.
     guests: Vec<usize>,
     // The places whose connections take more again.
     writable: Vec<usize>,
@@ -84,8 +83,18 @@ impl SocketPlaces {
         }
     }
 
-    /// Closes the socket at a place, which is free then.
+    /// Closes the socket at a place, which is free then. It leaves the lists, for who comes there next is
+    /// another one.
     pub(crate) fn close_place(&mut self, place: usize) {
+        let Some(slot) = self.slot(place) else {
+            return;
+        };
+        if slot.is_listed {
+            take_out(&mut self.ready, place);
+            take_out(&mut self.later, place);
+            take_out(&mut self.guests, place);
+        }
+        take_out(&mut self.writable, place);
         if let Some(old) = self.slots.get_mut(place) {
             *old = None;
         }
@@ -186,9 +195,6 @@ impl SocketPlaces {
     // Looks at the guest at a place: whether it is a client from now on, or is closed, or neither by now.
     fn look_at(&mut self, place: usize) -> Option<bool> {
         let slot = self.slot(place)?;
-        if !slot.is_guest {
-            return None;
-        }
         slot.is_listed = false;
         let is_client = slot.has_failed || slot.has_spoken()?;
         if is_client {
@@ -228,10 +234,6 @@ impl SocketPlaces {
         ensures { IfSome result (λ read. IfSome read (λ count. count ≤ length chunk.new)) }
     {
         let slot = self.slot(place)?;
-        // A place that was listed may be a guest's by now. It is looked at first, and nothing is taken from it.
-        if slot.is_guest {
-            return None;
-        }
         slot.is_listed = false;
         if slot.has_failed {
             return Some(None);
@@ -301,6 +303,11 @@ impl SocketPlaces {
 // Adds a place to a list that has room for it.
 fn add(list: &mut Vec<usize>, place: usize) {
     let _ = list.push(place);
+}
+
+// Takes a place out of a list, if it stands there.
+fn take_out(list: &mut Vec<usize>, place: usize) {
+    list.retain(|listed| *listed != place);
 }
 
 // When a client has been silent for too long, if it is silent from now on.

@@ -9,12 +9,9 @@ pub mod FramesHandedOut
 pub mod FramesHeard
 pub mod GoneCrews
 pub mod LinesShown
-pub mod OptionSearch
-pub mod OptionValues
 pub mod PrintedLines
 pub mod ServingAtOnce
 pub mod SessionsInOrder
-pub mod SubcommandWords
 pub mod UnheardClients
 pub mod WholeOpenings
 pub mod WorkInPlace

@@ -25,7 +25,7 @@ use Rattle.bank_clients.proofs.Histories.{goes_on_then, stays_on}
 use Rattle.bank_program.specs.ServeOutput.{PrintsLines, ServerContinues, end_lines, log_lines, port_line, session_line, session_lines}
 use Rattle.bank_program.specs.ServedAtOnce.{ServesAtOnce}
 use Rattle.bank_program.specs.ServedBank.{IsBankAfter, IsSameBank}
-use Rattle.bank_program.specs.declared.serving.Plan.{Plan}
+use Rattle.program_words.specs.declared.plan.Plan.{Plan}
 use Rattle.bank_program.specs.inner.AtOnceSteps.{ServesOver, ServesSome, StaysBank}
 use Rattle.bank_program.specs.inner.ServeSteps.{PrintsLog, PrintsRows}
 use Rattle.bank_program.proofs.BankAfter.{left_behind_first}

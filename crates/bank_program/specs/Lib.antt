@@ -14,5 +14,4 @@ pub mod ServedBank
 pub mod Sessions
 pub mod StoreAfter
 pub mod StrictRuns
-pub mod Words
 pub mod inner

@@ -11,8 +11,8 @@ use Rattle.sb_calls.specs.declared.ask.Key.{Key}
 use Rattle.sb_calls.specs.declared.call.Call.{Call}
 use Rattle.sb_sequencer.specs.Numbering.{calls_of}
 use Rattle.bank_program.specs.ServeOutput.{log_lines}
-use Rattle.bank_program.specs.declared.log_listing.Listing.{Listing}
-use Rattle.bank_program.specs.declared.log_listing.Listing.TheVariants.{Asks, Rows, Check}
+use Rattle.program_words.specs.declared.listing.Listing.{Listing}
+use Rattle.program_words.specs.declared.listing.Listing.TheVariants.{Asks, Rows, Check}
 
 -- `ask CLIENT REQUEST CALL`, for each ask in order
 abbrev pub ask_lines_of : List (Key × Call) → List (List ℕ)

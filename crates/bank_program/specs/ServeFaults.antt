@@ -5,7 +5,7 @@ use Rattle.bank_server.specs.declared.fault.RunFault.{RunFault}
 use Rattle.bank_server.specs.declared.fault.RunFault.TheVariants.{Input, Strayed, CrewGone, Device}
 use Rattle.bank_program.specs.declared.serve_fault.ServeFault.{ServeFault}
 use Rattle.bank_program.specs.declared.serve_fault.ServeFault.TheVariants.{Run, ReadBack, Store, StoreInUse, PortTaken, Log, AnotherOpening}
-use Rattle.bank_program.specs.declared.serving.Plan.{Plan}
+use Rattle.program_words.specs.declared.plan.Plan.{Plan}
 
 -- a device failed
 abbrev pub IsDeviceFault : RunFault → Type 0

@@ -9,7 +9,7 @@ use Rattle.bank_server.specs.Primary.{PrimaryOf, opening_rows_of}
 use Rattle.bank_clients.specs.History.{GoesOn, OutsideOf}
 use Rattle.bank_program.specs.ServeOutput.{PrintsLines, ServerContinues, end_lines, log_lines, port_line, session_lines}
 use Rattle.bank_program.specs.ServedBank.{IsBankAfter}
-use Rattle.bank_program.specs.declared.serving.Plan.{Plan}
+use Rattle.program_words.specs.declared.plan.Plan.{Plan}
 
 -- a bank serves clients at once at a port, by this plan: each of them is served as if its session were
 -- alone, by the log of all. The bank prints the log's line, if it has one, the port, how each session

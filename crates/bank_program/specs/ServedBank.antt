@@ -8,7 +8,7 @@ use Rattle.sb_sequencer.specs.Numbering.{IsLog}
 use Rattle.bank_program.specs.ServeOutput.{ServesBank}
 use Rattle.bank_program.specs.Sessions.{ListenerClients}
 use Rattle.bank_program.specs.StoreAfter.{IsStoreAfter}
-use Rattle.bank_program.specs.declared.serving.Plan.{Plan}
+use Rattle.program_words.specs.declared.plan.Plan.{Plan}
 
 -- the bank has the same names, over the same opening
 pub record IsSameBank {S K : Type 0} (old new : PrimaryOf S K) : Type 0 where

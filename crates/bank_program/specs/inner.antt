@@ -4,4 +4,3 @@ pub mod AtOnceSteps
 pub mod ServeSteps
 pub mod StepFaults
 pub mod CountSteps
-pub mod WordValues

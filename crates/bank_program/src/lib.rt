@@ -1,5 +1,4 @@
-//! The program as a library: what its words say, how its faults are reported, and the bank that it
-//! serves.
+//! The program as a library: what it does, how its faults are reported, and the bank that it serves.
 #![tactic(auto)]
 
 mod answer_counts;
@@ -7,7 +6,6 @@ mod answer_watch;
 mod beginning;
 mod client;
 mod client_stream;
-mod command;
 mod counted_stream;
 mod device;
 mod fault;
@@ -24,7 +22,6 @@ mod log_report;
 mod many_server;
 mod opened_bank;
 mod opening;
-mod options;
 mod printing;
 mod program_ask;
 mod program_checkpoint;
@@ -47,7 +44,6 @@ mod told_listener;
 mod told_sockets;
 mod trouble;
 mod watch;
-mod words;
 
 pub use answer_counts::{AnswerCounts, count_answers};
 pub use answer_watch::{AskWatch, RunWatch};
@@ -59,8 +55,8 @@ pub use laws::{followers_move, followers_open, messages_are_events, messages_mov
 pub use line_notes::{Oddity, line_note, oddity_of};
 pub use list_fault::ListFault;
 pub use listener::{ClientListener, SocketListener};
-pub use listening::{here, listen};
-pub use log_listing::{Listing, list_log};
+pub use listening::listen;
+pub use log_listing::list_log;
 pub use many_server::ManyServer;
 pub use opened_bank::open_on_file;
 pub use opening::whole_opening;
@@ -72,7 +68,7 @@ pub use program_server::serve_program;
 pub use report::{Report, told};
 pub use serve_fault::ServeFault;
 pub use server::Server;
-pub use serving::{Plan, ServedBank, serve, serve_bank, serve_beside};
+pub use serving::{ServedBank, serve, serve_bank, serve_beside};
 pub use serving_many::serve_many;
 pub use session_note::SessionNote;
 pub use socket_writer::SocketWriter;
@@ -80,7 +76,3 @@ pub use standard_streams::{input, output};
 pub use telling::tell;
 pub use trouble::{Cause, Trouble};
 pub use watch::Watch;
-pub use words::{
-    AskWords, CheckpointView, CheckpointWords, LogAction, LogWords, RunWords, ServeWords, Words,
-    read_words, refuse_bytes,
-};

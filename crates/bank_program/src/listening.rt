@@ -1,8 +1,7 @@
 //! The address where the server listens.
-ghost use Rattle.std.specs.Prelude.{◌≡◌, IfErr};
-ghost use Rattle.std.specs.Net.Socket.{socket_ip, socket_port};
+ghost use Rattle.std.specs.Prelude.{IfErr};
+ghost use Rattle.std.specs.Net.Socket.{socket_port};
 ghost use Rattle.bank_program.specs.ServeFaults.{IsPortFault};
-ghost use Rattle.bank_program.specs.Words.{IsThisMachine};
 
 use crate::device::Device;
 use crate::serve_fault::ServeFault;
@@ -11,7 +10,7 @@ use bank_server::RunFault;
 use mio::net::TcpListener;
 use std::io;
 use std::io::ErrorKind;
-use std::net::{IpAddr, Ipv4Addr, Net, SocketAddr};
+use std::net::{Net, SocketAddr};
 
 /// Listens at this address of this machine, and with port 0 at any free port of it.
 ///
@@ -37,14 +36,6 @@ pub(crate) fn listen_for_many(
     ensures fault { IfErr result (IsPortFault (socket_port address)) }
 {
     listener_of(address, trouble, TcpListener::bind(net, address))
-}
-
-/// This port of this machine. No other machine can reach it.
-pub fn here(port: u16) -> SocketAddr
-    ensures machine { IsThisMachine (socket_ip result) }
-    ensures port { socket_port result ≡ port }
-{
-    SocketAddr::new(IpAddr::V4(Ipv4Addr::new(127, 0, 0, 1)), port)
 }
 
 // A listener at this address, unless there is none.

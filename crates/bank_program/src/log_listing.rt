@@ -15,7 +15,7 @@ ghost use Rattle.sb_ask_log.specs.LogFile.{log_bytes};
 ghost use Rattle.sb_ask_log.specs.Recovery.{ReadsAskLog};
 ghost use Rattle.bank_program.specs.ServeOutput.{log_lines};
 ghost use Rattle.bank_program.specs.LogListing.{AreRowsAfter, IsListing, ask_lines_of};
-ghost use Rattle.bank_program.specs.ListFaults.{IsListFault, LeavesListing};
+ghost use Rattle.bank_program.specs.ListFaults.{IsListFault, IsListingFault, LeavesListing};
 
 use crate::list_fault::ListFault;
 use crate::opening::whole_opening;
@@ -24,6 +24,7 @@ use bank_server::Primary;
 use cown_board::Runs;
 use cown_workers::InlineCrew;
 use itoa::Buffer;
+use program_words::Listing;
 use sb_amount::{Cents, print};
 use sb_ask_log::{LogInFile, NoKeeper, read_asks};
 use sb_calls::{Call, Key};
@@ -35,17 +36,6 @@ use sb_text::{list_customers, push_field, write_whole};
 use sha2::Digest;
 use std::alloc::{AllocError, Global};
 use std::io::Write;
-
-/// What is listed of a log.
-#[derive(Clone, Copy, Debug, PartialEq, Eq)]
-pub enum Listing {
-    /// Its opening and its asks, which are an input of a run.
-    Asks,
-    /// The rows after it, as an opening.
-    Rows,
-    /// Its line: the number of its calls, and its digest.
-    Check,
-}
 
 /// Lists the log of a file. The file stays as it is, and a record at its end that isn't whole is left
 /// alone.
@@ -67,6 +57,7 @@ pub fn list_log<F: LogFile, W: Write>(
         × ReadsAskLog (F.content file.old) text log rest × (listed : List ℕ) × IsListing listing text log listed
         × Appends (W.contents writer.old) (W.contents writer.new) listed) }
     ensures fault { F.IsHonest file.old → IfErr result (IsListFault (F.content file.old)) }
+    ensures kind { IfErr result IsListingFault }
     ensures unwritten { IfErr result (λ fault. LeavesListing fault (W.contents writer.old) (W.contents writer.new)) }
 {
     let found = read_asks(alloc, file)?;

@@ -16,11 +16,11 @@ ghost use Rattle.bank_program.specs.inner.StepFaults.{IsEnding, IsPrintFault};
 
 use crate::printing::{print_log, print_port_number, print_rows, print_session};
 use crate::serve_fault::ServeFault;
-use crate::serving::Plan;
 use crate::session_end::finish_session;
 use bank_clients::{Connections, Over, Sessions};
 use bank_server::{Duty, Followers, Primary, RunFault, SessionFault, WorkerCount};
 use cown_workers::Crew;
+use program_words::Plan;
 use sb_ask_log::{Keeper, NoKeeper};
 use sb_checkpoint::CheckpointStore;
 use sb_sequencer::Sequencer;

@@ -8,9 +8,9 @@ use crate::fault::ProgramFault;
 use crate::opening::whole_opening;
 use crate::standard_streams::output;
 use crate::trouble::Trouble;
-use crate::words::{CheckpointView, CheckpointWords};
 use bank_server::RunFault;
 use checkpoint_text::{CheckpointListing, list_as_opening, list_checkpoint};
+use program_words::{CheckpointView, CheckpointWords};
 use std::fs;
 use std::io::ErrorKind;
 

@@ -1,12 +1,13 @@
 //! The program that lists a log, or cuts it.
 ghost use Rattle.std.specs.Prelude.{◌≡◌, ◌≤◌, length, IfErr, IfOk};
+ghost use Rattle.bank_program.specs.ListFaults.{IsListingFault, IsLogProgramFault};
 
 use crate::list_fault::ListFault;
-use crate::log_listing::{Listing, list_log};
+use crate::log_listing::list_log;
 use crate::log_report::LogReport;
 use crate::standard_streams::{are_open, output};
 use crate::trouble::Trouble;
-use crate::words::LogAction;
+use program_words::{Listing, LogAction};
 use sb_ask_log::read_asks;
 use sb_log::{LogFault, LogFile, Reason, SystemFile};
 use std::alloc::Global;
@@ -26,12 +27,17 @@ const PIECE: usize = 65_536;
 
 /// Lists the log in a folder, or cuts it. A fault of a file is told on standard error, and an error of a
 /// standard stream is noted.
+///
+/// Fails as [`list_log`] does and, if the log is cut, with [`ListFault::Rest`] if what was cut off can't be
+/// written.
 pub fn log_program(
     rt: &HostRuntime,
     folder: &str,
     action: LogAction,
     trouble: &Trouble<'_>,
-) -> Result<(), ListFault> {
+) -> Result<(), ListFault>
+    ensures fault { IfErr result (IsLogProgramFault action) }
+{
     let reason = Reason::new();
     let done = match action {
         LogAction::List(listing) => list(rt, folder, listing, &reason, trouble),
@@ -65,7 +71,9 @@ fn list(
     listing: Listing,
     reason: &Reason,
     trouble: &Trouble<'_>,
-) -> Result<(), ListFault> {
+) -> Result<(), ListFault>
+    ensures fault { IfErr result IsListingFault }
+{
     let mut file = SystemFile::open_to_read(rt, folder, LOG, reason)?;
     print_listing(rt, &mut file, listing, trouble)
 }
@@ -76,7 +84,9 @@ fn print_listing<F: LogFile>(
     file: &mut F,
     listing: Listing,
     trouble: &Trouble<'_>,
-) -> Result<(), ListFault> {
+) -> Result<(), ListFault>
+    ensures fault { IfErr result IsListingFault }
+{
     list_log(rt.alloc(), file, listing, &mut output(rt, trouble))
 }
 

@@ -1,18 +1,18 @@
 //! The program that runs calls.
-ghost use Rattle.std.specs.Prelude.{◌≡◌, false, true, IfSome, IsErrOf, OnOk};
-ghost use Rattle.bank_server.specs.Faults.{Writes};
+ghost use Rattle.std.specs.Prelude.{◌≡◌, false, true, IfErr, IfSome, IsErrOf, OnOk};
+ghost use Rattle.bank_server.specs.Faults.{IsFirstInputFault, Writes};
 ghost use Rattle.bank_server.specs.Output.{output_of};
-ghost use Rattle.bank_program.specs.StrictRuns.{is_whole};
-ghost use Rattle.bank_program.specs.Words.{IsRunInRange};
+ghost use Rattle.bank_program.specs.StrictRuns.{IsRunProgramFault, IsStrictFault, LeavesStrictOutput, MayEndRun, is_whole};
+ghost use Rattle.program_words.specs.Words.{IsRunInRange};
 ghost use Rattle.bank_program.specs.declared.fault.ProgramFault.TheVariants.{UnendedLine};
 
 use crate::answer_watch::RunWatch;
 use crate::fault::ProgramFault;
 use crate::standard_streams::{input, output};
 use crate::trouble::Trouble;
-use crate::words::RunWords;
 use bank_server::{RunFault, run_text};
 use cown_workers::OpenGate;
+use program_words::RunWords;
 use sb_text::read_all;
 use std::alloc::Global;
 use std::io::{Read, Write};
@@ -22,6 +22,8 @@ use std::time::Clock;
 
 /// Runs the calls of standard input, and writes to standard output. Then it tells on standard error how many lines
 /// were answered otherwise than by a reply, if some were. An error of a stream is noted.
+///
+/// Fails as [`run_strictly`] does if the words want it, and otherwise as [`run_text`] does.
 pub fn run_program<H: Threads + Wait + Clock + Sync>(
     rt: &HostRuntime,
     threads: &H,
@@ -29,6 +31,7 @@ pub fn run_program<H: Threads + Wait + Clock + Sync>(
     trouble: &Trouble<'_>,
 ) -> Result<(), ProgramFault>
     requires { IsRunInRange words }
+    ensures fault { IfErr result (IsRunProgramFault words) }
 {
     let (alloc, nodes, workers) = (rt.alloc(), words.nodes, words.workers);
     let mut reader = input(rt, trouble);
@@ -70,6 +73,12 @@ pub fn run_strictly<H: Threads + Wait + Clock + Sync, R: Read, W: Write>(
     ensures unended { IsErrOf result UnendedLine → IfSome (R.remaining reader.old) (λ input.
         is_whole input ≡ false) }
     ensures unwritten { IsErrOf result UnendedLine → W.contents writer.new ≡ W.contents writer.old }
+    // A fault of a line is the first, nothing was written unless a device failed, and a run by these words may end so.
+    ensures first { IfErr result (λ fault. IfSome (R.remaining reader.old) (λ input.
+        IsStrictFault (λ run. IsFirstInputFault run (output_of input)) fault)) }
+    ensures left { IfErr result (λ fault.
+        LeavesStrictOutput fault (W.contents writer.old) (W.contents writer.new)) }
+    ensures fault { IfErr result (IsStrictFault (MayEndRun words)) }
 {
     let input = match read_all(alloc, reader) {
         Ok(input) => input,

@@ -6,8 +6,6 @@ mod fields;
 mod laws;
 mod lines;
 mod listing;
-#[cfg(test)]
-mod tests;
 
 pub use fault::CheckpointListFault;
 pub use laws::faultless_if_spelled;

@@ -1,7 +1,8 @@
 //! Devices that fail, and what is told of them.
 ghost use Rattle.std.specs.Prelude.{None};
 
-use bank_program::{Device, Trouble, Watch, here};
+use bank_program::{Device, Trouble, Watch};
+use program_words::here;
 use sb_checkpoint::{CheckpointStore, FileStore, FileWithSpare, StoreFault};
 use sb_text::{ReadFault, read_all, write_whole};
 use std::alloc::Global;

@@ -3,7 +3,8 @@ ghost use Rattle.std.specs.Prelude.{OnOk, Some};
 ghost use Rattle.bank_program.specs.Sessions.{LeavesClient};
 
 use crate::served::{ASKED, DEPOSIT, GARBAGE, HERE, OPENING, TOLD};
-use bank_program::{ClientListener, ClientStream, Plan, serve};
+use bank_program::{ClientListener, ClientStream, serve};
+use program_words::Plan;
 use sb_checkpoint::MemoryStore;
 use sb_rows::read_opening;
 use std::collections::VecDeque;

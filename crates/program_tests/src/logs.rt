@@ -2,9 +2,9 @@
 use crate::clients::{Client, TestListener, Transcript};
 use crate::served::{ASKED, GARBAGE, HERE, OPENING, TOLD, plain};
 use bank_program::{
-    ListFault, Listing, Plan, ServeFault, ServedBank, Server, find_bank, list_log, open_on_file,
-    serve_bank,
+    ListFault, ServeFault, ServedBank, Server, find_bank, list_log, open_on_file, serve_bank,
 };
+use program_words::{Listing, Plan};
 use sb_checkpoint::MemoryStore;
 use sb_log::{LogFile, MemoryFile};
 use std::alloc::Global;

@@ -3,9 +3,10 @@ ghost use Rattle.std.specs.Prelude.{◌≡◌, ◌≤◌, None, []};
 ghost use Rattle.bank_server.specs.Execution.{HasNoEntries};
 
 use crate::clients::{Client, Manner, TestListener, Transcript};
-use bank_program::{Plan, ServeFault, Server, serve, serve_beside};
+use bank_program::{ServeFault, Server, serve, serve_beside};
 use bank_server::{Primary, ReadyFollowers, RunFault, StrayReason};
 use cown_bench::WORKERS;
+use program_words::Plan;
 use sb_checkpoint::{CheckpointStore, How, MemoryStore, StoreFault};
 use sb_rows::{Name, read_opening};
 use sb_sequencer::REPLICAS;

@@ -1,10 +1,10 @@
 //! The program's words.
 use crate::served::HERE;
-use bank_program::{
+use clap::Error;
+use program_words::{
     AskWords, CheckpointView, CheckpointWords, Listing, LogAction, LogWords, Plan, RunWords,
     ServeWords, Words, read_words, refuse_bytes,
 };
-use clap::Error;
 use std::alloc::Global;
 use std::net::{IpAddr, Ipv4Addr, Ipv6Addr};
 use std::process::Abort;

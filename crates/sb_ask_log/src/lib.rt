@@ -17,8 +17,3 @@ pub use laws::recovers_what_it_told;
 pub use log_in_file::{LogInFile, read_asks, recover_asks};
 pub use memory_log::{ASK_RECORD, MemoryLog};
 pub use opening_text::is_opening_text;
-
-#[cfg(test)]
-mod memory_log_tests;
-#[cfg(test)]
-mod tests;

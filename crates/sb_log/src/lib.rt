@@ -16,8 +16,6 @@ mod record;
 mod recovery;
 mod replay;
 mod system_file;
-#[cfg(test)]
-mod tests;
 
 pub use creation::create_log;
 pub use durable_log::DurableLog;

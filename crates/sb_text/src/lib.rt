@@ -7,8 +7,6 @@ mod laws;
 mod lines;
 mod listing;
 mod output;
-#[cfg(test)]
-mod tests;
 
 pub use input::{READS, ReadFault, read_all, read_with_room};
 pub use laws::limits;

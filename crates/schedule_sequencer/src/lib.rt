@@ -4,6 +4,3 @@
 mod durable_sequencer;
 
 pub use durable_sequencer::DurableSequencer;
-
-#[cfg(test)]
-mod tests;

@@ -1,14 +1,15 @@
 //! `smallbank`: a bank store whose output is a stated function of its input.
 #![tactic(auto)]
 
-ghost use Rattle.bank_program.specs.Words.{InRange};
+ghost use Rattle.program_words.specs.Words.{InRange};
 
 use bank_program::{
-    Device, LogWords, ProgramFault, ServeWords, Trouble, Words, ask_program, checkpoint_program,
-    input, log_program, output, read_words, refuse_bytes, run_program, serve_program, tell,
+    Device, ProgramFault, Trouble, ask_program, checkpoint_program, input, log_program, output,
+    run_program, serve_program, tell,
 };
 use bank_server::RunFault;
 use clap::error::ErrorKind;
+use program_words::{LogWords, ServeWords, Words, read_words, refuse_bytes};
 use schedule_player::run_schedule;
 use std::net::Net;
 use std::process::ExitCode;

@@ -1,6 +1,6 @@
 use Rattle.std.proofs.Common.{◌∙◌, ◌+◌, arith, refl, subst}
 use Rattle.bank_clients.specs.Sessions.{outside_of}
-use Rattle.bank_program.specs.declared.serving.Plan.{Plan}
+use Rattle.program_words.specs.declared.plan.Plan.{Plan}
 use Rattle.bank_program.specs.inner.AtOnceSteps.{ServesOver}
 use Rattle.bank_program.proofs.ServingAtOnce.{some_at_first, some_then_over}
 use Rattle.bank_program.proofs.many_server.ManyServer.serve_all.Goals as goal

@@ -10,7 +10,7 @@ use Rattle.bank_clients.specs.Sessions.{SessionsOf, outside_of}
 use Rattle.bank_program.specs.ServeFaults.{IsFinishFault}
 use Rattle.bank_program.specs.ServeOutput.{ServerContinues}
 use Rattle.bank_program.specs.ServedBank.{IsBankAfter}
-use Rattle.bank_program.specs.declared.serving.Plan.{Plan}
+use Rattle.program_words.specs.declared.plan.Plan.{Plan}
 use Rattle.bank_program.proofs.GoneCrews.{finish_fault_if}
 use Rattle.bank_program.proofs.ServingAtOnce.{if_both, over_behind, over_continues, rounds_at_first, rounds_then, still_begun}
 use Rattle.bank_program.proofs.many_server.ManyServer.serve_next.Goals as goal

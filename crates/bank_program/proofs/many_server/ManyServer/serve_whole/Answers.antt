@@ -3,7 +3,7 @@ use Rattle.std.proofs.lemmas.Result.{on_ok_weaker}
 use Rattle.bank_server.proofs.boards.Boards.{idle_none_out}
 use Rattle.bank_clients.specs.Sessions.{outside_of}
 use Rattle.bank_program.specs.ServedBank.{IsBankAfter}
-use Rattle.bank_program.specs.declared.serving.Plan.{Plan}
+use Rattle.program_words.specs.declared.plan.Plan.{Plan}
 use Rattle.bank_program.proofs.ServingAtOnce.{serves_at_once}
 use Rattle.bank_program.proofs.many_server.ManyServer.serve_whole.Goals as goal
 

@@ -6,7 +6,7 @@ use Rattle.bank_server.proofs.boards.Boards.{idle_none_out}
 use Rattle.bank_program.specs.ServeFaults.{IsFinishFault}
 use Rattle.bank_program.specs.ServedBank.{IsBankAfter}
 use Rattle.bank_program.specs.inner.ServeSteps.{ServesNext}
-use Rattle.bank_program.specs.declared.serving.Plan.{Plan}
+use Rattle.program_words.specs.declared.plan.Plan.{Plan}
 use Rattle.bank_program.proofs.BankAfter.{left_after_next, left_at_first}
 use Rattle.bank_program.proofs.GoneCrews.{finish_fault_if, keeps_if}
 use Rattle.bank_program.proofs.PrintedLines.{next_session, no_sessions, same_rows}

@@ -1,0 +1,3 @@
+pub mod OptionSearch
+pub mod OptionValues
+pub mod SubcommandWords
