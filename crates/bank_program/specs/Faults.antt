@@ -8,10 +8,10 @@ use Rattle.bank_program.specs.declared.fault.ProgramFault.{ProgramFault}
 use Rattle.bank_program.specs.declared.fault.ProgramFault.TheVariants.{Run, UnendedLine, Play, Serve, Log, Checkpoint, Ask}
 use Rattle.ask_client.specs.declared.ask_fault.AskFault.{AskFault}
 use Rattle.ask_client.specs.declared.ask_fault.AskFault.TheVariants as ask
-use Rattle.bank_program.specs.ListFaults.{list_status}
-use Rattle.bank_program.specs.declared.list_fault.ListFault.TheVariants as list
-use Rattle.bank_program.specs.declared.serve_fault.ServeFault.{ServeFault}
-use Rattle.bank_program.specs.declared.serve_fault.ServeFault.TheVariants as serve
+use Rattle.bank_service.specs.ListFaults.{list_status}
+use Rattle.bank_service.specs.declared.list_fault.ListFault.TheVariants as list
+use Rattle.bank_service.specs.declared.serve_fault.ServeFault.{ServeFault}
+use Rattle.bank_service.specs.declared.serve_fault.ServeFault.TheVariants as serve
 
 -- 1 for an input that is refused, 3 for every other fault
 abbrev pub run_status : RunFault → ℕ

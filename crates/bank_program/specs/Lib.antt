@@ -1,17 +1,4 @@
 pub mod Faults
-pub mod FollowerEvents
-pub mod FollowerMoves
-pub mod FoundBank
 pub mod LineNotes
-pub mod ListFaults
-pub mod LogListing
-pub mod OpenedBank
-pub mod Opening
-pub mod ServeFaults
-pub mod ServeOutput
-pub mod ServedAtOnce
-pub mod ServedBank
-pub mod Sessions
-pub mod StoreAfter
 pub mod StrictRuns
 pub mod inner

@@ -4,10 +4,9 @@ ghost use Rattle.bank_program.specs.Faults.{IsOfDevice, IsTold, line_at_fault};
 ghost use Rattle.bank_program.specs.inner.ListingFaults.{fault_of_listing};
 ghost use Rattle.bank_program.specs.declared.fault.ProgramFault.TheVariants.{Ask, Run};
 
-use crate::list_fault::ListFault;
-use crate::serve_fault::ServeFault;
 use ask_client::AskFault;
 use bank_server::RunFault;
+use bank_service::{ListFault, ServeFault};
 use checkpoint_text::CheckpointListFault;
 use sb_checkpoint::CheckpointFault;
 use schedule_player::ScheduleFault;

@@ -1,12 +1,12 @@
 //! The address where the server listens.
 ghost use Rattle.std.specs.Prelude.{IfErr};
 ghost use Rattle.std.specs.Net.Socket.{socket_port};
-ghost use Rattle.bank_program.specs.ServeFaults.{IsPortFault};
+ghost use Rattle.bank_service.specs.ServeFaults.{IsPortFault};
 
 use crate::device::Device;
-use crate::serve_fault::ServeFault;
 use crate::trouble::Trouble;
 use bank_server::RunFault;
+use bank_service::ServeFault;
 use mio::net::TcpListener;
 use std::io;
 use std::io::ErrorKind;

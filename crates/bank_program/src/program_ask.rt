@@ -1,7 +1,7 @@
 //! The program that asks a served bank.
 ghost use Rattle.std.specs.Prelude.{IfErr};
 ghost use Rattle.bank_program.specs.Faults.{IsAskProgramFault};
-ghost use Rattle.bank_program.specs.ServeFaults.{IsDeviceFault};
+ghost use Rattle.bank_service.specs.ServeFaults.{IsDeviceFault};
 
 use crate::answer_watch::AskWatch;
 use crate::device::Device;

@@ -1,14 +1,14 @@
 //! The program that prints a checkpoint.
 ghost use Rattle.std.specs.Prelude.{IfErr};
 ghost use Rattle.bank_program.specs.Faults.{IsCheckpointProgramFault};
-ghost use Rattle.bank_program.specs.inner.StepFaults.{IsPrintRunFault};
+ghost use Rattle.bank_service.specs.inner.StepFaults.{IsPrintRunFault};
 
 use crate::device::Device;
 use crate::fault::ProgramFault;
-use crate::opening::whole_opening;
 use crate::standard_streams::output;
 use crate::trouble::Trouble;
 use bank_server::RunFault;
+use bank_service::whole_opening;
 use checkpoint_text::{CheckpointListing, list_as_opening, list_checkpoint};
 use program_words::{CheckpointView, CheckpointWords};
 use std::fs;

@@ -1,18 +1,16 @@
 //! The program that serves many clients at once.
 ghost use Rattle.std.specs.Prelude.{◌≡◌, ◌⊎◌, ◌≤◌, ◌<◌, IfErr};
 ghost use Rattle.bank_server.specs.Execution.{HasNoEntries};
-ghost use Rattle.bank_program.specs.ServeFaults.{IsPortFault, IsServingFault};
+ghost use Rattle.bank_service.specs.ServeFaults.{IsPortFault, IsServingFault};
 
 use crate::device::Device;
 use crate::listening::listen_for_many;
-use crate::many_server::ManyServer;
-use crate::serve_fault::ServeFault;
-use crate::serving_many::serve_many;
 use crate::standard_streams::output;
 use crate::told_sockets::ToldSockets;
 use crate::trouble::Trouble;
 use bank_clients::{ClientSockets, Limits, Sessions};
 use bank_server::Primary;
+use bank_service::{ManyServer, ServeFault, serve_many};
 use cown_bench::WORKERS;
 use program_words::Plan;
 use sb_ask_log::Keeper;

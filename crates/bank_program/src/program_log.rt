@@ -1,12 +1,11 @@
 //! The program that lists a log, or cuts it.
 ghost use Rattle.std.specs.Prelude.{◌≡◌, ◌≤◌, length, IfErr, IfOk};
-ghost use Rattle.bank_program.specs.ListFaults.{IsListingFault, IsLogProgramFault};
+ghost use Rattle.bank_service.specs.ListFaults.{IsListingFault, IsLogProgramFault};
 
-use crate::list_fault::ListFault;
-use crate::log_listing::list_log;
 use crate::log_report::LogReport;
 use crate::standard_streams::{are_open, output};
 use crate::trouble::Trouble;
+use bank_service::{ListFault, list_log};
 use program_words::{Listing, LogAction};
 use sb_ask_log::read_asks;
 use sb_log::{LogFault, LogFile, Reason, SystemFile};

@@ -1,27 +1,23 @@
 //! The program that serves.
 ghost use Rattle.std.specs.Prelude.{◌≡◌, ◌≤◌, None, false, true, is_some, IfErr, IfOk};
 ghost use Rattle.bank_server.specs.Execution.{HasNoEntries};
-ghost use Rattle.bank_program.specs.ServeFaults.{IsPortFault, IsProgramFault};
+ghost use Rattle.bank_service.specs.ServeFaults.{IsPortFault, IsProgramFault};
 ghost use Rattle.bank_program.specs.inner.StepFaults.{IsOpenFault, IsOpeningFault, IsStoreFault};
 
 use crate::device::Device;
-use crate::found_bank::find_bank;
-use crate::listener::SocketListener;
 use crate::listening::listen;
 use crate::log_report::{CutReport, LogReport};
-use crate::opened_bank::open_on_file;
-use crate::opening::whole_opening;
 use crate::program_clients::serve_clients_at;
 use crate::program_log::LOG;
-use crate::serve_fault::ServeFault;
-use crate::server::Server;
-use crate::serving::{serve, serve_bank};
 use crate::standard_streams::{are_open, input, output};
 use crate::store_folder::{CHECKPOINT, StoreLock, tell_earlier};
 use crate::told_listener::ToldListener;
 use crate::trouble::Trouble;
 use crate::watch::Watch;
 use bank_server::{Primary, RunFault};
+use bank_service::{
+    ServeFault, Server, SocketListener, find_bank, open_on_file, serve, serve_bank, whole_opening,
+};
 use cown_bench::WORKERS;
 use program_words::Plan;
 use sb_ask_log::AskLog;

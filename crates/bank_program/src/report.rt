@@ -2,13 +2,12 @@
 ghost use Rattle.std.specs.Prelude.{◌≡◌};
 ghost use Rattle.bank_program.specs.Faults as spec;
 ghost use Rattle.bank_program.specs.Faults.{exit_status};
-ghost use Rattle.bank_program.specs.ListFaults as lists;
+ghost use Rattle.bank_service.specs.ListFaults as lists;
 
 use crate::fault::ProgramFault;
-use crate::list_fault::ListFault;
-use crate::serve_fault::ServeFault;
 use ask_client::AskFault;
 use bank_server::RunFault;
+use bank_service::{ListFault, ServeFault};
 use sb_log::LogFault;
 use schedule_player::ScheduleFault;
 use std::fmt;

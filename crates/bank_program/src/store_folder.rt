@@ -3,8 +3,8 @@ ghost use Rattle.std.specs.Prelude.{IfErr};
 ghost use Rattle.bank_program.specs.inner.StepFaults.{IsLockFault};
 
 use crate::device::Device;
-use crate::serve_fault::ServeFault;
 use crate::trouble::Trouble;
+use bank_service::ServeFault;
 use std::fs;
 use std::fs::{File, TryLockError};
 use std::path::PathBuf;

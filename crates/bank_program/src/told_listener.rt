@@ -1,12 +1,11 @@
 //! Clients of whose sessions is told, one after another.
 ghost use Rattle.std.specs.Prelude.{None, OnOk};
-ghost use Rattle.bank_program.specs.Sessions.{LeavesClient};
+ghost use Rattle.bank_service.specs.Sessions.{LeavesClient};
 
-use crate::client_stream::ClientStream;
 use crate::counted_stream::{CountedReader, CountedWriter};
-use crate::listener::ClientListener;
 use crate::session_note::SessionNote;
 use bank_clients::Traffic;
+use bank_service::{ClientListener, ClientStream};
 use std::io;
 use std::net::OpenStream;
 use std::time::{Duration, Instant};

@@ -1,13 +1,12 @@
 //! Devices whose errors are noted.
 ghost use Rattle.std.specs.Prelude.{OnOk};
-ghost use Rattle.bank_program.specs.Sessions.{LeavesClient};
+ghost use Rattle.bank_service.specs.Sessions.{LeavesClient};
 ghost use Rattle.ask_client.specs.Connections.{LeavesStream};
 
-use crate::client_stream::ClientStream;
 use crate::device::Device;
-use crate::listener::ClientListener;
 use crate::trouble::Trouble;
 use ask_client::{Dialer, ServerStream};
+use bank_service::{ClientListener, ClientStream};
 use sb_checkpoint::{FileWithSpare, StoreFault};
 use std::io;
 use std::io::{ErrorKind, Read, Write};

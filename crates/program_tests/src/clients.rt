@@ -1,9 +1,9 @@
 //! Clients in memory, who connect one after another.
 ghost use Rattle.std.specs.Counts.{IsPrefixLen};
 ghost use Rattle.std.specs.Prelude.{IfOk, OnOk, Some};
-ghost use Rattle.bank_program.specs.Sessions.{LeavesClient};
+ghost use Rattle.bank_service.specs.Sessions.{LeavesClient};
 
-use bank_program::{ClientListener, ClientStream};
+use bank_service::{ClientListener, ClientStream};
 use std::alloc::{AllocError, Global};
 use std::cell::{Cell, RefCell};
 use std::collections::VecDeque;

@@ -2,7 +2,7 @@
 
 use crate::clients::{Client, Manner, TestListener, Transcript};
 use crate::served::HERE;
-use bank_program::{ClientListener, SocketListener, serve};
+use bank_service::{ClientListener, SocketListener, serve};
 use program_words::{Plan, here};
 use sb_checkpoint::MemoryStore;
 use sb_rows::read_opening;

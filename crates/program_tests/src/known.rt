@@ -1,9 +1,9 @@
 //! Clients in memory, whose bytes the contracts know.
 ghost use Rattle.std.specs.Prelude.{OnOk, Some};
-ghost use Rattle.bank_program.specs.Sessions.{LeavesClient};
+ghost use Rattle.bank_service.specs.Sessions.{LeavesClient};
 
 use crate::served::{ASKED, DEPOSIT, GARBAGE, HERE, OPENING, TOLD};
-use bank_program::{ClientListener, ClientStream, serve};
+use bank_service::{ClientListener, ClientStream, serve};
 use program_words::Plan;
 use sb_checkpoint::MemoryStore;
 use sb_rows::read_opening;

@@ -1,7 +1,7 @@
 //! Banks on a log, and what is listed of it.
 use crate::clients::{Client, TestListener, Transcript};
 use crate::served::{ASKED, GARBAGE, HERE, OPENING, TOLD, plain};
-use bank_program::{
+use bank_service::{
     ListFault, ServeFault, ServedBank, Server, find_bank, list_log, open_on_file, serve_bank,
 };
 use program_words::{Listing, Plan};

@@ -1,6 +1,6 @@
 //! Openings with nothing after them.
-use bank_program::whole_opening;
 use bank_server::{InputFault, RunFault};
+use bank_service::whole_opening;
 use sb_rows::LineFault;
 use std::alloc::Global;
 use std::process::Abort;

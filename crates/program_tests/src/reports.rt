@@ -1,6 +1,7 @@
 //! How faults are reported.
-use bank_program::{ListFault, ProgramFault, ServeFault, told};
+use bank_program::{ProgramFault, told};
 use bank_server::{InputFault, RunFault, StrayReason};
+use bank_service::{ListFault, ServeFault};
 use sb_calls::CallFault;
 use sb_log::LogFault;
 use schedule_player::ScheduleFault;

@@ -3,8 +3,8 @@ ghost use Rattle.std.specs.Prelude.{◌≡◌, ◌≤◌, None, []};
 ghost use Rattle.bank_server.specs.Execution.{HasNoEntries};
 
 use crate::clients::{Client, Manner, TestListener, Transcript};
-use bank_program::{ServeFault, Server, serve, serve_beside};
 use bank_server::{Primary, ReadyFollowers, RunFault, StrayReason};
+use bank_service::{ServeFault, Server, serve, serve_beside};
 use cown_bench::WORKERS;
 use program_words::Plan;
 use sb_checkpoint::{CheckpointStore, How, MemoryStore, StoreFault};

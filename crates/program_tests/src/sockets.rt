@@ -1,6 +1,7 @@
 //! Banks that are served over the system's sockets.
 use crate::served::HERE;
-use bank_program::{ServeFault, SocketListener, Trouble, listen, serve};
+use bank_program::{Trouble, listen};
+use bank_service::{ServeFault, SocketListener, serve};
 use program_words::{Plan, here};
 use sb_checkpoint::MemoryStore;
 use sb_rows::read_opening;

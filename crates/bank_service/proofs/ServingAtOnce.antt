@@ -1,0 +1,251 @@
+-- Serving many clients of a bank at once, step by step.
+use Rattle.std.proofs.Common.{◌≡◌, ℕ, ◌+◌, ◌<◌, Bool, Option, Some, None, List, [], ◌∷◌, ◌++◌, false, length, refl, sym, ap, subst, ◌∙◌, arith, length-append}
+use Rattle.std.specs.Prelude.{Result, Ok, Err, IfSome, OnOk, slice_get}
+use Rattle.std.proofs.KnownBytes.{Appends-nil}
+use Rattle.std.proofs.lemmas.List.Elements.{All-append, All-cons, All-nil}
+use Rattle.sb_checkpoint.specs.Stores.{StoreModel}
+use Rattle.sb_calls.specs.declared.ask.Key.{Key}
+use Rattle.sb_calls.specs.declared.call.Call.{Call}
+use Rattle.sb_rows.specs.Balances.{Balances}
+use Rattle.sb_rows.specs.Rows.{Rows}
+use Rattle.sb_replica.specs.Replica.{RestOf}
+use Rattle.cown_board.proofs.LogLaws.{some_at}
+use Rattle.cown_board.specs.Board.{BoardOf}
+use Rattle.cown_board.specs.declared.state.State.{State}
+use Rattle.cown_board.specs.declared.state.State.TheVariants.{Out}
+use Rattle.cown_workers.specs.Draining.{HasNoneOut}
+use Rattle.sb_calls.specs.declared.op.Op.{Op}
+use Rattle.bank_server.specs.Execution.{HasNoEntries}
+use Rattle.bank_server.specs.Clients.{ClientOf, End, IsLeft, IsServed, PastOf}
+use Rattle.bank_server.specs.Primary.{PreservesBank, PrimaryOf, opening_rows_of}
+use Rattle.bank_server.specs.declared.session.session_fault.SessionFault.TheVariants.{Frame, Unexpected, CrewGone, Device, OutOfMemory, Log, TooMany}
+use Rattle.bank_clients.specs.History.{GoesOn, HistoryOf, OutsideOf, ServesEach, history_after}
+use Rattle.bank_clients.specs.Sessions.{IsOver, end_with_rest}
+use Rattle.bank_clients.proofs.Histories.{goes_on_then, stays_on}
+use Rattle.bank_service.specs.ServeOutput.{PrintsLines, ServerContinues, end_lines, log_lines, port_line, session_line, session_lines}
+use Rattle.bank_service.specs.ServedAtOnce.{ServesAtOnce}
+use Rattle.bank_service.specs.ServedBank.{IsBankAfter, IsSameBank}
+use Rattle.program_words.specs.declared.plan.Plan.{Plan}
+use Rattle.bank_service.specs.inner.AtOnceSteps.{ServesOver, ServesSome, StaysBank}
+use Rattle.bank_service.specs.inner.ServeSteps.{PrintsLog, PrintsRows}
+use Rattle.bank_service.proofs.BankAfter.{left_behind_first}
+use Rattle.bank_service.proofs.PrintedLines.{PrintsLines-trans, same_rows, session_lines-push}
+
+abbrev CallLog : Type 0
+CallLog = List (Key × Call)
+
+-- ---- how sessions end
+
+-- a client who is served never ends with a fault of the server
+continues_if_left : (own : End) (past : PastOf) (client : ClientOf) (rest : List ℕ) → IsLeft (Some own) past client rest → ServerContinues own
+continues_if_left (Ok done) past client rest left = tt
+continues_if_left (Err (Frame fault)) past client rest left = tt
+continues_if_left (Err Unexpected) past client rest left = tt
+continues_if_left (Err CrewGone) past client rest left = left
+continues_if_left (Err Device) past client rest left = tt
+continues_if_left (Err OutOfMemory) past client rest left = left
+continues_if_left (Err (Log fault)) past client rest left = left
+continues_if_left (Err TooMany) past client rest left = tt
+
+continues_with_rest : (own : End) (rest : List ℕ) → ServerContinues own → ServerContinues (end_with_rest own rest)
+continues_with_rest own [] on = on
+continues_with_rest own (byte ∷ rest) on = tt
+
+continues_if_over : (opening : Rows) (asks log : CallLog) (past : PastOf) (client : ClientOf) (end : End) → IsServed opening asks log past client
+    → IsOver client end → ServerContinues end
+continues_if_over opening asks log past client end served (own, ended, is) =
+    let left = subst (λ (o : Option End). IsLeft o past client served.heard.rest) ended served.heard.left in
+    subst ServerContinues (sym is) (continues_with_rest own client.outcomes (continues_if_left own past client served.heard.rest left))
+
+-- a session that is over lets the server go on
+pub over_continues : (opening : Rows) (h : HistoryOf) (log : CallLog) (clients : List ClientOf) (place : ℕ) (end : End)
+    → ServesEach opening h log clients → place < length clients → IfSome (slice_get clients place) (λ client. IsOver client end) → ServerContinues end
+over_continues opening h log clients place end served within over =
+    let (client, is) = some_at clients place within in
+    continues_if_over opening h.asks log (h.past place) client end
+    (subst (λ (o : Option ClientOf). IfSome o (λ c. IsServed opening h.asks log (h.past place) c)) is (served.each place))
+    (subst (λ (o : Option ClientOf). IfSome o (λ c. IsOver c end)) is over)
+
+-- what both say of a success, a success gives
+pub if_both : {E P Q R : Type 0} (result : Result (Unit {0}) E) → (P → Q → R) → OnOk result P → OnOk result Q → OnOk result R
+if_both (Ok done) f p q = f p q
+if_both (Err fault) f p q = tt
+
+nothing_is_out : None ≡ Some Out → ⊥
+nothing_is_out e = cc
+
+-- a board without entries has none out
+pub no_entries_none_out : (board : BoardOf Op) → HasNoEntries board → HasNoneOut board
+no_entries_none_out board none k is = nothing_is_out (subst (λ (states : List State). slice_get states k ≡ Some Out) none.states is)
+
+module _ {S K : Type 0} (model : StoreModel S) (keeps : K → List (Key × Call) → Type 0) (text_of : K → Option (List ℕ)) where
+  -- ---- the bank stays
+
+  stays_at_first : (saves : Bool) (bank : PrimaryOf S K) → StaysBank model text_of saves bank bank
+  stays_at_first saves bank = record {
+    bank = record { names = refl; opening = refl };
+    text = refl;
+    store = record { honest = λ honest. honest; stored = λ s some honest. absurd (omega (arith, some)); unchanged = λ s. refl };
+  }
+
+  stays_then : (saves : Bool) (old mid new : PrimaryOf S K) → StaysBank model text_of saves old mid → StaysBank model text_of saves mid new
+      → StaysBank model text_of saves old new
+  stays_then saves old mid new first next = record {
+    bank = record { names = next.bank.names ∙ first.bank.names; opening = next.bank.opening ∙ first.bank.opening };
+    text = next.text ∙ first.text;
+    store = record {
+      honest = λ honest. next.store.honest (first.store.honest honest);
+      stored = λ s some honest. absurd (omega (arith, some));
+      unchanged = λ s. next.store.unchanged s ∙ first.store.unchanged s;
+    };
+  }
+
+  -- in a round
+  stays_in_round : (has_failed : K → Bool) (saves : Bool) (old new : PrimaryOf S K) → PreservesBank keeps text_of has_failed old new
+      → StaysBank model text_of saves old new
+  stays_in_round has_failed saves old new kept =
+      let same : new.node.store ≡ old.node.store = ap (λ (r : RestOf S). r.store) kept.rest in
+      record {
+        bank = record { names = ap (λ (r : RestOf S). r.names) kept.rest; opening = kept.opening };
+        text = kept.keeper.same_opening;
+        store = record {
+          honest = λ honest. subst model.IsHonest (sym same) honest;
+          stored = λ s some honest. absurd (omega (arith, some));
+          unchanged = λ s. same;
+        };
+      }
+
+  -- as a session is finished
+  stays_in_session : (saves : Bool) (old new : PrimaryOf S K) → IsBankAfter model keeps text_of saves 1 old new → StaysBank model text_of saves old new
+  stays_in_session saves old new after = record {
+    bank = after.bank;
+    text = after.text;
+    store = record {
+      honest = after.kept.honest;
+      stored = λ s some honest. absurd (omega (arith, some));
+      unchanged = after.kept.unchanged;
+    };
+  }
+
+  -- a bank that stayed, and is finished then
+  finished_then : (saves : Bool) (old mid new : PrimaryOf S K) → StaysBank model text_of saves old mid → IsBankAfter model keeps text_of saves 1 mid new
+      → IsBankAfter model keeps text_of saves 1 old new
+  finished_then saves old mid new first next = record {
+    bank = record { names = next.bank.names ∙ first.bank.names; opening = next.bank.opening ∙ first.bank.opening };
+    one_each = next.one_each;
+    all = next.all;
+    kept_log = next.kept_log;
+    text = next.text ∙ first.text;
+    kept = record {
+      honest = λ honest. next.kept.honest (first.store.honest honest);
+      stored = λ s some honest. next.kept.stored s some (first.store.honest honest);
+      unchanged = λ s. next.kept.unchanged s ∙ first.store.unchanged s;
+    };
+  }
+
+  -- ---- sessions
+
+  pub some_at_first : (saves : Bool) (o : OutsideOf) (clients : List ClientOf) (bank : PrimaryOf S K) (a : Option (List ℕ))
+      → ServesSome model text_of saves 0 o o clients clients bank bank a a
+  unfolding session_lines
+  some_at_first saves o clients bank a = record {
+    goes_on = stays_on (opening_rows_of bank) o bank.log clients;
+    ends = [];
+    all = refl;
+    go_on = All-nil ServerContinues;
+    printed = Appends-nil a;
+    stays = stays_at_first saves bank;
+  }
+
+  -- who was served at first is served now
+  pub still_begun : (o p : OutsideOf) (xs ys : List ClientOf) (old new : PrimaryOf S K) → GoesOn (opening_rows_of old) o old.log xs p new.log ys
+      → IsSameBank old new → ((h : HistoryOf) × ServesEach (opening_rows_of old) h old.log xs)
+      → (h : HistoryOf) × ServesEach (opening_rows_of new) h new.log ys
+  still_begun o p xs ys old new on same (h, served) =
+      let (events, out, now) = on h served in
+      (history_after h events, subst (λ (rows : Rows). ServesEach rows (history_after h events) new.log ys) (sym (same_rows old new same)) now)
+
+  -- rounds, while no session is over
+  pub rounds_at_first : (saves : Bool) (o : OutsideOf) (clients : List ClientOf) (bank : PrimaryOf S K)
+      → GoesOn (opening_rows_of bank) o bank.log clients o bank.log clients × StaysBank model text_of saves bank bank
+  rounds_at_first saves o clients bank = (stays_on (opening_rows_of bank) o bank.log clients, stays_at_first saves bank)
+
+  pub rounds_then : (has_failed : K → Bool) (saves : Bool) (o p q : OutsideOf) (xs ys zs : List ClientOf) (old mid new : PrimaryOf S K)
+      → GoesOn (opening_rows_of old) o old.log xs p mid.log ys → StaysBank model text_of saves old mid
+      → GoesOn (opening_rows_of mid) p mid.log ys q new.log zs → PreservesBank keeps text_of has_failed mid new
+      → GoesOn (opening_rows_of old) o old.log xs q new.log zs × StaysBank model text_of saves old new
+  rounds_then has_failed saves o p q xs ys zs old mid new on stays round kept = (
+    goes_on_then (opening_rows_of old) o p q old.log mid.log new.log xs ys zs on
+        (subst (λ (rows : Rows). GoesOn rows p mid.log ys q new.log zs) (same_rows old mid stays.bank) round),
+    stays_then saves old mid new stays (stays_in_round has_failed saves mid new kept),
+  )
+
+  -- behind these rounds a session is over
+  pub over_behind : (saves : Bool) (number : ℕ) (o p q : OutsideOf) (xs ys zs : List ClientOf) (old mid new : PrimaryOf S K) (a b c : Option (List ℕ))
+      (end : End) → GoesOn (opening_rows_of old) o old.log xs p mid.log ys → StaysBank model text_of saves old mid → b ≡ a → ServerContinues end
+      → PrintsLines (session_line number end ∷ []) b c → IsBankAfter model keeps text_of saves 1 mid new → new.log ≡ mid.log → zs ≡ ys → q ≡ p
+      → ServesOver model text_of saves number o q xs zs old new a c
+  over_behind saves number o p q xs ys zs old mid new a b c end on stays same continues printed after log clients outside = record {
+    goes_on = subst (λ (l : CallLog). GoesOn (opening_rows_of old) o old.log xs q l zs) (sym log)
+        (subst (λ (l : List ClientOf). GoesOn (opening_rows_of old) o old.log xs q mid.log l) (sym clients)
+        (subst (λ (w : OutsideOf). GoesOn (opening_rows_of old) o old.log xs w mid.log ys) (sym outside) on));
+    end = end;
+    continues = continues;
+    printed = subst (λ (l : Option (List ℕ)). PrintsLines (session_line number end ∷ []) l c) same printed;
+    stays = stays_then saves old mid new stays (stays_in_session saves mid new after);
+  }
+
+  -- one session more is over
+  pub some_then_over : (saves : Bool) (count : ℕ) (o p q : OutsideOf) (xs ys zs : List ClientOf) (old mid new : PrimaryOf S K) (a b c : Option (List ℕ))
+      → ServesSome model text_of saves count o p xs ys old mid a b → ServesOver model text_of saves (count + 1) p q ys zs mid new b c
+      → ServesSome model text_of saves (count + 1) o q xs zs old new a c
+  some_then_over saves count o p q xs ys zs old mid new a b c so_far next =
+      let number : 1 + length so_far.ends ≡ count + 1 = omega (arith, so_far.all) in
+      record {
+        goes_on = goes_on_then (opening_rows_of old) o p q old.log mid.log new.log xs ys zs so_far.goes_on
+            (subst (λ (rows : Rows). GoesOn rows p mid.log ys q new.log zs) (same_rows old mid so_far.stays.bank) next.goes_on);
+        ends = so_far.ends ++ next.end ∷ [];
+        all = omega (arith, length-append so_far.ends (next.end ∷ []), so_far.all);
+        go_on = All-append ServerContinues so_far.ends (next.end ∷ []) so_far.go_on
+            (All-cons ServerContinues next.end [] next.continues (All-nil ServerContinues));
+        printed = subst (λ (ls : List (List ℕ)). PrintsLines ls a c) (sym (session_lines-push 1 so_far.ends next.end))
+            (PrintsLines-trans a b c (session_lines 1 so_far.ends) (session_line (1 + length so_far.ends) next.end ∷ []) so_far.printed
+            (subst (λ (n : ℕ). PrintsLines (session_line n next.end ∷ []) b c) (sym number) next.printed));
+        stays = stays_then saves old mid new so_far.stays next.stays;
+      }
+
+  -- all that a bank prints
+  pub serves_at_once : (plan : Plan) (port : ℕ) (o p : OutsideOf) (xs ys : List ClientOf) (first opened served last : PrimaryOf S K)
+      (a b c d e f : Option (List ℕ)) → IsBankAfter model keeps text_of false 1 first opened → opened.log ≡ first.log
+      → PrintsLog text_of opened a b → PrintsLines (port_line plan.host port ∷ []) b c
+      → ServesSome model text_of plan.saves plan.sessions o p xs ys opened served c d
+      → IsBankAfter model keeps text_of plan.saves 1 served last → last.log ≡ served.log
+      → PrintsLog text_of last d e → PrintsRows last e f
+      → ServesAtOnce model keeps text_of plan port o p xs ys first last a f
+  serves_at_once plan port o p xs ys first opened served last a b c d e f early same_log line start some after log last_line rows =
+      let whole = left_behind_first model keeps text_of plan.saves 1 first opened last early
+      (finished_then plan.saves opened served last some.stays after) in
+      let same_lines : end_lines last.node.names last.node.board.opening last.log ≡ end_lines first.node.names first.node.board.opening last.log =
+      ap (λ (names : List (List ℕ)). end_lines names last.node.board.opening last.log) whole.bank.names
+      ∙ ap (λ (opening : Balances). end_lines first.node.names opening last.log) whole.bank.opening in
+      let ended = end_lines first.node.names first.node.board.opening last.log in
+      let sessions = session_lines 1 some.ends in
+      let lines = log_lines (text_of first.keeper) last.log in
+      record {
+        goes_on = subst (λ (l : CallLog). GoesOn (opening_rows_of first) o first.log xs p l ys) (sym log)
+            (subst (λ (l : CallLog). GoesOn (opening_rows_of first) o l xs p served.log ys) same_log
+            (subst (λ (r : Rows). GoesOn r o opened.log xs p served.log ys) (same_rows first opened early.bank) some.goes_on));
+        ends = some.ends;
+        all = some.all;
+        go_on = some.go_on;
+        printed =
+            let rest = PrintsLines-trans b e f ((port_line plan.host port ∷ sessions) ++ lines) ended
+            (PrintsLines-trans b d e (port_line plan.host port ∷ sessions) lines
+            (PrintsLines-trans b c d (port_line plan.host port ∷ []) sessions start some.printed)
+            (subst (λ (text : Option (List ℕ)). PrintsLines (log_lines text last.log) d e) whole.text last_line))
+            (subst (λ (ls : List (List ℕ)). PrintsLines ls e f) same_lines rows) in
+            PrintsLines-trans a b f (log_lines (text_of first.keeper) first.log) (((port_line plan.host port ∷ sessions) ++ lines) ++ ended)
+            (subst (λ (text : Option (List ℕ)). PrintsLines (log_lines text first.log) a b) early.text
+            (subst (λ (l : CallLog). PrintsLines (log_lines (text_of opened.keeper) l) a b) same_log line)) rest;
+        left = whole;
+      }

@@ -1,0 +1,112 @@
+use Rattle.std.proofs.Common.{◌≡◌, ◌∙◌, ap, false, refl, subst}
+use Rattle.cown_workers.specs.Draining.{HasNoneOut}
+use Rattle.std.proofs.lemmas.Result.{err_from_is_err_and, on_ok_weaker}
+use Rattle.bank_server.proofs.boards.Boards.{idle_none_out}
+use Rattle.bank_server.proofs.boards.WholeReplies.{if_err}
+use Rattle.bank_server.specs.Clients.{ClientsOf}
+use Rattle.bank_server.specs.Primary.{opening_rows_of}
+use Rattle.bank_clients.specs.History.{GoesOn}
+use Rattle.bank_clients.specs.Sessions.{SessionsOf, outside_of}
+use Rattle.bank_service.specs.ServeFaults.{IsFinishFault}
+use Rattle.bank_service.specs.ServeOutput.{ServerContinues}
+use Rattle.bank_service.specs.ServedBank.{IsBankAfter}
+use Rattle.program_words.specs.declared.plan.Plan.{Plan}
+use Rattle.bank_service.proofs.GoneCrews.{finish_fault_if}
+use Rattle.bank_service.proofs.ServingAtOnce.{if_both, over_behind, over_continues, rounds_at_first, rounds_then, still_begun}
+use Rattle.bank_service.proofs.many_server.ManyServer.serve_next.Goals as goal
+
+pub loop-init : goal.loop-init
+loop-init g c =
+    let start = rounds_at_first g.S.CheckpointStore.model g.K.Keeper.Keeps g.K.Keeper.opening c.args.self.now.plan.saves
+    (outside_of g.A.Arrivals.coming g.A.Arrivals.sent c.args.self.now.sessions.connections) c.args.self.now.sessions.clients.all c.args.self.now.primary in
+    record {
+      goes_on = start.0;
+      stays = start.1;
+      ready = c.requires.ready;
+      none_out = λ e none. none;
+      writer = refl;
+      plan = refl;
+      nodes = refl;
+    }
+
+pub end_session-requires : goal.end_session-requires
+end_session-requires g c =
+    let outside = outside_of g.A.Arrivals.coming g.A.Arrivals.sent in
+    let kept = c.loop.invariant in
+    let over = c.in-Some-next_over.over in
+    let (h, served) = still_begun g.S.CheckpointStore.model g.K.Keeper.Keeps g.K.Keeper.opening (outside c.args.self.now.sessions.connections)
+    (outside c.loop.self.sessions.connections) c.args.self.now.sessions.clients.all c.loop.self.sessions.clients.all c.args.self.now.primary
+    c.loop.self.primary kept.goes_on kept.stays.bank c.requires.begun in
+    record {
+      goes_on = over_continues (opening_rows_of c.loop.self.primary) h c.loop.self.primary.log c.loop.self.sessions.clients.all over.place over.ending
+          served c.in-Some-next_over.ensures.there c.in-Some-next_over.ensures.over;
+    }
+
+pub returns-in-Some-next_over-clause-served : goal.returns-in-Some-next_over-clause-served
+returns-in-Some-next_over-clause-served g c =
+    let outside = outside_of g.A.Arrivals.coming g.A.Arrivals.sent in
+    let model = g.S.CheckpointStore.model in
+    let keeps = g.K.Keeper.Keeps in
+    let text_of = g.K.Keeper.opening in
+    let kept = c.loop.invariant in
+    let over = c.in-Some-next_over.over in
+    let old = c.args.self.now in
+    let mid = c.loop.self in
+    let new = c.end_session.new.self in
+    let same = c.next_over.ensures.unchanged in
+    let (h, served) = still_begun model keeps text_of (outside old.sessions.connections) (outside mid.sessions.connections) old.sessions.clients.all
+    mid.sessions.clients.all old.primary mid.primary kept.goes_on kept.stays.bank c.requires.begun in
+    let continues : ServerContinues over.ending = over_continues (opening_rows_of mid.primary) h mid.primary.log mid.sessions.clients.all over.place
+    over.ending served c.in-Some-next_over.ensures.there c.in-Some-next_over.ensures.over in
+    if_both c.end_session.result (λ printed after. over_behind model keeps text_of old.plan.saves c.args.number (outside old.sessions.connections)
+    (outside mid.sessions.connections) (outside new.sessions.connections) old.sessions.clients.all mid.sessions.clients.all new.sessions.clients.all
+    old.primary mid.primary new.primary (g.W.Write.contents old.writer) (g.W.Write.contents mid.writer) (g.W.Write.contents new.writer) over.ending
+    kept.goes_on kept.stays kept.writer continues printed
+    (subst (λ (plan : Plan). IsBankAfter model keeps text_of plan.saves 1 mid.primary new.primary) kept.plan after) c.end_session.ensures.log
+    (ap (λ (x : ClientsOf). x.all) (c.end_session.ensures.clients ∙ ap (λ (s : SessionsOf g.row.A.Denot). s.clients) same))
+    (c.end_session.ensures.outside ∙ ap (λ (s : SessionsOf g.row.A.Denot). outside s.connections) same)) c.end_session.ensures.printed
+    c.end_session.ensures.bank_after
+
+pub returns-in-Some-next_over-clause-none_out : goal.returns-in-Some-next_over-clause-none_out
+returns-in-Some-next_over-clause-none_out g c =
+    on_ok_weaker c.end_session.result (λ after. idle_none_out c.end_session.new.self.primary.node.board after.all.idle) c.end_session.ensures.bank_after
+
+pub returns-in-Some-next_over-clause-fault : goal.returns-in-Some-next_over-clause-fault
+returns-in-Some-next_over-clause-fault g c =
+    let kept = c.loop.invariant in
+    if_err c.end_session.result (λ fault is. subst (λ (plan : Plan).
+    IsFinishFault (g.C.Crew.keeps ≡ false → ¬ HasNoneOut c.args.self.now.primary.node.board) plan.saves g.K.Keeper.fails fault) kept.plan
+    (finish_fault_if c.loop.self.plan.saves g.K.Keeper.fails fault (λ gone e none. gone e (kept.none_out e none)) is)) c.end_session.ensures.fault
+
+pub loop-preserved : goal.loop-preserved
+loop-preserved g c =
+    let outside = outside_of g.A.Arrivals.coming g.A.Arrivals.sent in
+    let kept = c.loop.invariant in
+    let old = c.args.self.now in
+    let mid = c.loop.self in
+    let new = c.serve_round.new.self in
+    let round : GoesOn (opening_rows_of mid.primary) (outside mid.sessions.connections) mid.primary.log mid.sessions.clients.all
+    (outside new.sessions.connections) new.primary.log new.sessions.clients.all =
+    subst (λ (s : SessionsOf g.row.A.Denot). GoesOn (opening_rows_of mid.primary) (outside s.connections) mid.primary.log s.clients.all
+    (outside new.sessions.connections) new.primary.log new.sessions.clients.all) c.next_over.ensures.unchanged c.in_ok-serve_round.ensures.goes_on in
+    let both = rounds_then g.S.CheckpointStore.model g.K.Keeper.Keeps g.K.Keeper.opening g.K.Keeper.has_failed old.plan.saves
+    (outside old.sessions.connections) (outside mid.sessions.connections) (outside new.sessions.connections) old.sessions.clients.all
+    mid.sessions.clients.all new.sessions.clients.all old.primary mid.primary new.primary kept.goes_on kept.stays round c.serve_round.ensures.bank in
+    record {
+      goes_on = both.0;
+      stays = both.1;
+      ready = c.in_ok-serve_round.ensures.ready;
+      none_out = λ e none. c.serve_round.ensures.none_out e (kept.none_out e none);
+      writer = c.in_ok-serve_round.ensures.writer ∙ kept.writer;
+      plan = c.serve_round.ensures.plan ∙ kept.plan;
+      nodes = c.serve_round.ensures.nodes ∙ kept.nodes;
+    }
+
+pub returns-in_err-serve_round-clause-fault : goal.returns-in_err-serve_round-clause-fault
+returns-in_err-serve_round-clause-fault g c =
+    let p = err_from_is_err_and c.from_residual.result c.from_residual.ensures.1 in
+    let kept = c.loop.invariant in
+    let fault = c.in_err-serve_round.field-0.0 in
+    rw (p.1, p.2) (subst (λ (plan : Plan). IsFinishFault (g.C.Crew.keeps ≡ false → ¬ HasNoneOut c.args.self.now.primary.node.board) plan.saves
+    g.K.Keeper.fails fault) kept.plan (finish_fault_if c.loop.self.plan.saves g.K.Keeper.fails fault (λ gone e none. gone e (kept.none_out e none))
+    c.in_err-serve_round.ensures.fault))

@@ -1,0 +1,14 @@
+pub mod FollowerEvents
+pub mod FollowerMoves
+pub mod FoundBank
+pub mod ListFaults
+pub mod LogListing
+pub mod OpenedBank
+pub mod Opening
+pub mod ServeFaults
+pub mod ServeOutput
+pub mod ServedAtOnce
+pub mod ServedBank
+pub mod Sessions
+pub mod StoreAfter
+pub mod inner

@@ -1,0 +1,4 @@
+pub mod AtOnceSteps
+pub mod FindSteps
+pub mod ServeSteps
+pub mod StepFaults

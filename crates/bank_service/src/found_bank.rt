@@ -1,0 +1,135 @@
+//! The bank that is found in a log's file.
+ghost use Rattle.std.specs.Prelude.{◌≡◌, ◌≢◌, ◌⊎◌, ◌↔◌, [], false, true, IfErr, IfOk, IsErrOf};
+ghost use Rattle.sha2.specs.Hashers.{Holds256};
+ghost use Rattle.sb_log.specs.LogFiles.{HasFailed};
+ghost use Rattle.sb_log.specs.declared.log_fault.LogFault.TheVariants.{Device};
+ghost use Rattle.sb_ask_log.specs.LogFile.{log_bytes};
+ghost use Rattle.sb_ask_log.specs.Recovery.{HasPartOfOpening};
+ghost use Rattle.sb_ask_log.specs.Telling.{Tells};
+ghost use Rattle.bank_service.specs.FoundBank.{FindsBank, IsFindFault, with_line_end};
+ghost use Rattle.bank_service.specs.Opening.{IsOpeningOf, whole_opening_of};
+ghost use Rattle.bank_service.specs.ServeFaults.{IsBankFault};
+ghost use Rattle.bank_service.specs.declared.serve_fault.ServeFault.TheVariants.{Log};
+ghost use Rattle.bank_service.specs.inner.FindSteps.{IsCreateFault, IsMatchFault};
+
+use crate::opening::whole_opening;
+use crate::serve_fault::ServeFault;
+use bank_server::RunFault;
+use sb_ask_log::{LogInFile, create_asks, recover_asks};
+use sb_log::LogFile;
+use sb_rows::Opening;
+use std::alloc::{AllocError, Global};
+
+// An opening is never that long: it has 65,536 lines at most.
+const TEXT: usize = 1 << 31;
+
+/// A bank as it is found in a log's file.
+#[derive(Drop)]
+pub struct FoundBank {
+    /// The log that the file has.
+    pub log: LogInFile,
+    /// The opening that the log's text spells.
+    pub opening: Opening,
+    /// How many bytes of a record that wasn't whole were cut off.
+    pub cut: usize,
+}
+
+/// Finds the bank of a log's file. If the file has a log, the input is empty or the same opening.
+/// Otherwise the input is the opening of a new log, which is made in the file. What is found is on the
+/// disk then.
+///
+/// Fails with
+/// - [`ServeFault::Log`] if the file is damaged, its device fails, or memory is refused,
+/// - [`ServeFault::AnotherOpening`] if the file has a log with another opening,
+/// - [`ServeFault::Run`] if there is no log and the input isn't an opening, or if memory is refused.
+///
+/// A file that is damaged stays as it is. Otherwise the file's log stays, and a torn rest may be cut
+/// off; if there is no log, a part of the new one may be there.
+pub fn find_bank<F: LogFile>(
+    alloc: Global,
+    file: &mut F,
+    input: &[u8],
+) -> Result<FoundBank, ServeFault>
+    ensures honest { F.IsHonest file.old ↔ F.IsHonest file.new }
+    ensures found { F.IsHonest file.old → IfOk result (λ found. FindsBank (F.content file.old) input.now
+        found.log.text.items found.log.log.value.log found.cut) }
+    ensures opening { IfOk result (λ found. IsOpeningOf (whole_opening_of found.log.text.items) found.opening) }
+    ensures some { IfOk result (λ found. found.log.text.items ≢ []) }
+    ensures holds { IfOk result (λ found.
+        Holds256 found.log.end.hasher (log_bytes found.log.text.items found.log.log.value.log)) }
+    // It counts as told from now on.
+    ensures told { F.IsHonest file.old → IfOk result (λ found. Tells (F.content file.new) (F.synced file.new) false
+        found.log.end.hasher found.log.text.items found.log.log.value.log) }
+    // Why it fails, and what the file has then.
+    ensures fault { F.IsHonest file.old → IfErr result (λ fault.
+        IsFindFault (F.content file.old) input.now fault (F.content file.new)) }
+    ensures device { IsErrOf result (Log Device)
+        → HasFailed (F.has_failed file.new) (F.IsHonest file.old) (F.content file.old) }
+    ensures kind { IfErr result IsBankFault }
+{
+    let found = recover_asks(alloc, file)?;
+    let cut = found.end.torn;
+    if found.text.is_empty() {
+        let (log, opening) = create(alloc, file, input)?;
+        return Ok(FoundBank { log, opening, cut });
+    }
+    let opening = matching_opening(alloc, &found, input)?;
+    Ok(FoundBank {
+        log: found,
+        opening,
+        cut,
+    })
+}
+
+// Makes a log with the input's opening in an empty file.
+fn create<F: LogFile>(
+    alloc: Global,
+    file: &mut F,
+    input: &[u8],
+) -> Result<(LogInFile, Opening), ServeFault>
+    requires empty { F.IsHonest file.old → (F.content file.old ≡ []) × (F.synced file.old ≡ 0) }
+    ensures honest { F.IsHonest file.old ↔ F.IsHonest file.new }
+    ensures log { IfOk result (λ made. (made.0.text.items ≡ with_line_end input.now) × (made.0.log.value.log ≡ [])) }
+    ensures opening { IfOk result (λ made. IsOpeningOf (whole_opening_of made.0.text.items) made.1) }
+    ensures some { IfOk result (λ made. made.0.text.items ≢ []) }
+    ensures holds { IfOk result (λ made. Holds256 made.0.end.hasher (log_bytes made.0.text.items [])) }
+    ensures told { F.IsHonest file.old → IfOk result (λ made.
+        Tells (F.content file.new) (F.synced file.new) false made.0.end.hasher made.0.text.items []) }
+    ensures fault { F.IsHonest file.old → IfErr result (λ fault.
+        IsCreateFault (with_line_end input.now) fault (F.content file.new)) }
+    ensures device { IsErrOf result (Log Device) → F.has_failed file.new ≡ true }
+    ensures kind { IfErr result IsBankFault }
+{
+    let text = with_line_end(alloc, input)?;
+    let opening = whole_opening(alloc, &text)?;
+    if text.len() >= TEXT {
+        return Err(ServeFault::Run(RunFault::OutOfMemory));
+    }
+    let log = create_asks(alloc, file, text)?;
+    Ok((log, opening))
+}
+
+// The opening of a log that was found, unless the input is another one.
+fn matching_opening(alloc: Global, found: &LogInFile, input: &[u8]) -> Result<Opening, ServeFault>
+    ensures opening { IfOk result (IsOpeningOf (whole_opening_of found.now.text.items)) }
+    ensures same { IfOk result (λ opening. (input.now ≡ []) ⊎ (with_line_end input.now ≡ found.now.text.items)) }
+    ensures fault { IfErr result (IsMatchFault found.now.text.items input.now) }
+{
+    if !input.is_empty() && with_line_end(alloc, input)?.as_slice() != found.text.as_slice() {
+        return Err(ServeFault::AnotherOpening);
+    }
+    Ok(whole_opening(alloc, &found.text)?)
+}
+
+// A text with the end of its last line.
+fn with_line_end(alloc: Global, text: &[u8]) -> Result<Vec<u8>, AllocError>
+    ensures { IfOk result (λ whole. whole.items ≡ with_line_end text.now) }
+{
+    let mut whole = Vec::from_slice(alloc, text)?;
+    if let Some(last) = text.last() {
+        if *last != b'\n' {
+            whole.push(b'\n')?;
+        }
+    }
+    Ok(whole)
+}

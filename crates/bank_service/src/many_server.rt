@@ -1,0 +1,305 @@
+//! The server of many clients at once.
+ghost use Rattle.std.specs.Prelude.{◌≡◌, ◌⊎◌, ◌∷◌, [], Err, false, true, length, IfErr, IfOk, OnOk};
+ghost use Rattle.std.specs.List.{All};
+ghost use Rattle.cown_workers.specs.Draining.{HasNoneOut};
+ghost use Rattle.bank_server.specs.Clients.{IsReady};
+ghost use Rattle.bank_server.specs.Primary.{PreservesBank, opening_rows_of};
+ghost use Rattle.bank_server.specs.SessionFaults.{IsTurnFault};
+ghost use Rattle.bank_clients.specs.History.{GoesOn, HistoryOf, ServesEach};
+ghost use Rattle.bank_clients.specs.Sessions.{outside_of};
+ghost use Rattle.bank_service.specs.ServeFaults.{IsFinishFault, IsServingFault};
+ghost use Rattle.bank_service.specs.ServedAtOnce.{ServesAtOnce};
+ghost use Rattle.bank_service.specs.ServedBank.{IsBankAfter};
+ghost use Rattle.bank_service.specs.ServeOutput.{PrintsLines, ServerContinues, session_line};
+ghost use Rattle.bank_service.specs.inner.AtOnceSteps.{ServesOver, ServesSome};
+ghost use Rattle.bank_service.specs.inner.StepFaults.{IsEnding, IsPrintFault};
+
+use crate::printing::{print_log, print_port_number, print_rows, print_session};
+use crate::serve_fault::ServeFault;
+use crate::session_end::finish_session;
+use bank_clients::{Connections, Over, Sessions};
+use bank_server::{Duty, Followers, Primary, RunFault, SessionFault, WorkerCount};
+use cown_workers::Crew;
+use program_words::Plan;
+use sb_ask_log::{Keeper, NoKeeper};
+use sb_checkpoint::CheckpointStore;
+use sb_sequencer::Sequencer;
+use std::alloc::{AllocError, Global};
+use std::io::Write;
+use std::sync::Wait;
+use std::thread::Threads;
+use std::time::Clock;
+
+// How many entries are numbered before the followers are sent them, unless a session ends.
+const FEED: u64 = 1_024;
+
+/// A bank, the sessions of clients who are served at once, and the writer where it prints.
+#[derive(Drop)]
+pub struct ManyServer<A, S: CheckpointStore, W, K: Keeper = NoKeeper> {
+    /// The allocator.
+    pub alloc: Global,
+    /// How the bank is served.
+    pub plan: Plan,
+    /// The port where clients are accepted.
+    pub port: u16,
+    /// The sessions.
+    pub sessions: Sessions<A>,
+    /// The bank.
+    pub primary: Primary<S, K>,
+    /// Where the server prints.
+    pub writer: W,
+}
+
+impl<A, S, W, K> Duty for ManyServer<A, S, W, K>
+where
+    A: Connections + Drop,
+    S: CheckpointStore,
+    W: Write + Drop,
+    K: Keeper,
+{
+    type Answer = Result<ManyServer<A, S, W, K>, ServeFault>;
+
+    ghost ready = { λ server. HasNoneOut server.primary.node.board
+        × All (λ client. IsReady (length server.primary.log) client) server.sessions.clients.all
+        × ((h : HistoryOf)
+        × ServesEach (opening_rows_of server.primary) h server.primary.log server.sessions.clients.all) };
+
+    ghost does = { λ server nodes workers keeps answer. IfOk answer (λ bank. ServesAtOnce S.model K.Keeps K.opening
+        server.plan server.port
+        (outside_of A.coming A.sent server.sessions.connections) (outside_of A.coming A.sent bank.sessions.connections)
+        server.sessions.clients.all bank.sessions.clients.all server.primary bank.primary
+        (W.contents server.writer) (W.contents bank.writer))
+        × IfErr answer (IsServingFault nodes (keeps ≡ true) server.plan.saves K.fails) };
+
+    // Serves the bank, and prints its whole output.
+    fn carry_out<R, C>(
+        self,
+        rt: &R,
+        followers: &mut Followers<'_, R>,
+        crew: &mut C,
+    ) -> Result<ManyServer<A, S, W, K>, ServeFault>
+    where
+        R: Threads + Wait + Clock,
+        C: Crew + WorkerCount,
+    {
+        let mut server = self;
+        server.serve_whole(rt, followers, crew)?;
+        Ok(server)
+    }
+}
+
+impl<A, S, W, K> ManyServer<A, S, W, K>
+where
+    A: Connections,
+    S: CheckpointStore,
+    W: Write,
+    K: Keeper,
+{
+    // Serves the bank, and prints its whole output.
+    fn serve_whole<R, C>(
+        &mut self,
+        rt: &R,
+        followers: &mut Followers<'_, R>,
+        crew: &mut C,
+    ) -> Result<(), ServeFault>
+    where
+        R: Threads + Wait + Clock,
+        C: Crew,
+        requires none_out { HasNoneOut self.old.primary.node.board }
+        requires ready { All (λ client. IsReady (length self.old.primary.log) client) self.old.sessions.clients.all }
+        requires begun { (h : HistoryOf)
+            × ServesEach (opening_rows_of self.old.primary) h self.old.primary.log self.old.sessions.clients.all }
+        ensures served { OnOk result (ServesAtOnce S.model K.Keeps K.opening self.old.plan self.old.port
+            (outside_of A.coming A.sent self.old.sessions.connections)
+            (outside_of A.coming A.sent self.new.sessions.connections)
+            self.old.sessions.clients.all self.new.sessions.clients.all self.old.primary self.new.primary
+            (W.contents self.old.writer) (W.contents self.new.writer)) }
+        ensures fault { IfErr result (IsServingFault followers.old.nodes (C.keeps ≡ true) self.old.plan.saves
+            K.fails) }
+    {
+        // The log that the bank opens with is executed, and sent to the followers.
+        finish_session(&mut self.primary, followers, false, crew)?;
+        print_log(self.alloc, &self.primary, &mut self.writer)?;
+        print_port_number(self.alloc, self.plan.host, self.port, &mut self.writer)?;
+        self.serve_all(rt, followers, crew)?;
+        finish_session(&mut self.primary, followers, self.plan.saves, crew)?;
+        followers.compare(rt, self.primary.node())?;
+        print_log(self.alloc, &self.primary, &mut self.writer)?;
+        print_rows(self.alloc, &self.primary, &mut self.writer)
+    }
+
+    // Serves clients at once, until as many sessions are over as the plan has.
+    fn serve_all<R, C>(
+        &mut self,
+        rt: &R,
+        followers: &mut Followers<'_, R>,
+        crew: &mut C,
+    ) -> Result<(), ServeFault>
+    where
+        R: Wait,
+        C: Crew,
+        requires none_out { C.keeps ≡ false → HasNoneOut self.old.primary.node.board }
+        requires ready { All (λ client. IsReady (length self.old.primary.log) client) self.old.sessions.clients.all }
+        requires begun { (h : HistoryOf)
+            × ServesEach (opening_rows_of self.old.primary) h self.old.primary.log self.old.sessions.clients.all }
+        ensures served { OnOk result (ServesSome S.model K.opening self.old.plan.saves self.old.plan.sessions
+            (outside_of A.coming A.sent self.old.sessions.connections)
+            (outside_of A.coming A.sent self.new.sessions.connections)
+            self.old.sessions.clients.all self.new.sessions.clients.all self.old.primary self.new.primary
+            (W.contents self.old.writer) (W.contents self.new.writer)) }
+        ensures none_out { OnOk result (C.keeps ≡ false → HasNoneOut self.new.primary.node.board) }
+        ensures nodes { followers.new.nodes ≡ followers.old.nodes }
+        ensures plan { self.new.plan ≡ self.old.plan }
+        ensures fault { IfErr result (IsFinishFault (C.keeps ≡ true) self.old.plan.saves K.fails) }
+    {
+        for before in 0..self.plan.sessions {
+            self.serve_next(before + 1, rt, followers, crew)?;
+        }
+        Ok(())
+    }
+
+    // Serves clients at once, until one more session is over, which has this number.
+    fn serve_next<R, C>(
+        &mut self,
+        number: usize,
+        rt: &R,
+        followers: &mut Followers<'_, R>,
+        crew: &mut C,
+    ) -> Result<(), ServeFault>
+    where
+        R: Wait,
+        C: Crew,
+        requires ready { All (λ client. IsReady (length self.old.primary.log) client) self.old.sessions.clients.all }
+        requires begun { (h : HistoryOf)
+            × ServesEach (opening_rows_of self.old.primary) h self.old.primary.log self.old.sessions.clients.all }
+        ensures served { OnOk result (ServesOver S.model K.opening self.old.plan.saves number
+            (outside_of A.coming A.sent self.old.sessions.connections)
+            (outside_of A.coming A.sent self.new.sessions.connections)
+            self.old.sessions.clients.all self.new.sessions.clients.all self.old.primary self.new.primary
+            (W.contents self.old.writer) (W.contents self.new.writer)) }
+        ensures ready { OnOk result
+            (All (λ client. IsReady (length self.new.primary.log) client) self.new.sessions.clients.all) }
+        ensures none_out { OnOk result (HasNoneOut self.new.primary.node.board) }
+        ensures nodes { followers.new.nodes ≡ followers.old.nodes }
+        ensures plan { self.new.plan ≡ self.old.plan }
+        ensures fault { IfErr result (IsFinishFault (C.keeps ≡ false → ¬ HasNoneOut self.old.primary.node.board)
+            self.old.plan.saves K.fails) }
+    {
+        let mut fed = self.primary.log().length();
+        for _ in rt.forever() {
+            if let Some(over) = self.sessions.next_over() {
+                return self.end_session(number, over, followers, crew);
+            }
+            self.serve_round(number, &mut fed, followers, crew)?;
+        }
+        unreachable!()
+    }
+
+    // Waits until there is something to do, and serves once around. If that fails, the session with this
+    // number is the next that is over.
+    fn serve_round<R: Wait, C: Crew>(
+        &mut self,
+        number: usize,
+        fed: &mut u64,
+        followers: &mut Followers<'_, R>,
+        crew: &mut C,
+    ) -> Result<(), ServeFault>
+        requires ready { All (λ client. IsReady (length self.old.primary.log) client) self.old.sessions.clients.all }
+        ensures ready { OnOk result
+            (All (λ client. IsReady (length self.new.primary.log) client) self.new.sessions.clients.all) }
+        ensures goes_on { OnOk result (GoesOn (opening_rows_of self.old.primary)
+            (outside_of A.coming A.sent self.old.sessions.connections) self.old.primary.log
+            self.old.sessions.clients.all (outside_of A.coming A.sent self.new.sessions.connections)
+            self.new.primary.log self.new.sessions.clients.all) }
+        ensures bank { PreservesBank K.Keeps K.opening K.has_failed self.old.primary self.new.primary }
+        ensures none_out { C.keeps ≡ false → HasNoneOut self.old.primary.node.board
+            → HasNoneOut self.new.primary.node.board }
+        ensures writer { OnOk result (W.contents self.new.writer ≡ W.contents self.old.writer) }
+        ensures nodes { followers.new.nodes ≡ followers.old.nodes }
+        ensures plan { self.new.plan ≡ self.old.plan }
+        ensures fault { IfErr result (IsFinishFault (C.keeps ≡ false → ¬ HasNoneOut self.old.primary.node.board)
+            self.old.plan.saves K.fails) }
+    {
+        self.sessions.wait()?;
+        if let Err(fault) = self.sessions.serve(&mut self.primary, crew) {
+            return Err(self.stop(number, fault));
+        }
+        feed_if_many(self.primary.log(), fed, followers)?;
+        Ok(())
+    }
+
+    // Prints how the next session ended, of a server that ends with this fault.
+    fn stop(&mut self, number: usize, fault: SessionFault) -> ServeFault
+        requires { IsTurnFault fault }
+        ensures fault { IsPrintFault result ⊎ IsEnding (Err fault) result }
+        ensures primary { self.new.primary ≡ self.old.primary }
+        ensures plan { self.new.plan ≡ self.old.plan }
+    {
+        match print_session(self.alloc, number, Err(fault), &mut self.writer) {
+            Ok(()) => fault_of_turn(fault),
+            Err(fault) => fault,
+        }
+    }
+
+    // Ends a session that is over, which has this number.
+    fn end_session<R, C>(
+        &mut self,
+        number: usize,
+        over: Over,
+        followers: &mut Followers<'_, R>,
+        crew: &mut C,
+    ) -> Result<(), ServeFault>
+    where
+        R: Wait,
+        C: Crew,
+        requires goes_on { ServerContinues over.ending }
+        ensures printed { OnOk result (PrintsLines (session_line number over.ending ∷ [])
+            (W.contents self.old.writer) (W.contents self.new.writer)) }
+        ensures bank_after { OnOk result (IsBankAfter S.model K.Keeps K.opening self.old.plan.saves 1
+            self.old.primary self.new.primary) }
+        ensures log { self.new.primary.log ≡ self.old.primary.log }
+        ensures clients { self.new.sessions.clients ≡ self.old.sessions.clients }
+        ensures outside { outside_of A.coming A.sent self.new.sessions.connections
+            ≡ outside_of A.coming A.sent self.old.sessions.connections }
+        ensures nodes { followers.new.nodes ≡ followers.old.nodes }
+        ensures plan { self.new.plan ≡ self.old.plan }
+        ensures fault { IfErr result (IsFinishFault (C.keeps ≡ false → ¬ HasNoneOut self.old.primary.node.board)
+            self.old.plan.saves K.fails) }
+    {
+        // The stream stays open until the session is finished, and ends as the client is left. So a
+        // client whose stream ends while the server goes on knows that its asks are saved.
+        finish_session(&mut self.primary, followers, self.plan.saves, crew)?;
+        let printed = print_session(self.alloc, number, over.ending, &mut self.writer);
+        self.sessions.leave(over);
+        printed
+    }
+}
+
+// Sends the followers the entries that they lack, if there are many since this many were fed.
+fn feed_if_many<R: Wait>(
+    log: &Sequencer,
+    fed: &mut u64,
+    followers: &mut Followers<'_, R>,
+) -> Result<(), AllocError>
+    ensures nodes { followers.new.nodes ≡ followers.old.nodes }
+{
+    if log.length().saturating_sub(*fed) < FEED {
+        return Ok(());
+    }
+    followers.feed(log)?;
+    *fed = log.length();
+    Ok(())
+}
+
+// The fault of a server whose turn failed so.
+fn fault_of_turn(fault: SessionFault) -> ServeFault
+    requires { IsTurnFault fault }
+    ensures { IsEnding (Err fault) result }
+{
+    match fault {
+        SessionFault::CrewGone => ServeFault::Run(RunFault::CrewGone),
+        SessionFault::OutOfMemory => ServeFault::Run(RunFault::OutOfMemory),
+        SessionFault::Log(fault) => ServeFault::Log(fault),
+        _ => unreachable!(),
+    }
+}

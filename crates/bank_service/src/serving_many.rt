@@ -1,0 +1,66 @@
+//! A bank that serves many clients at once.
+ghost use Rattle.std.specs.Prelude.{◌≡◌, ◌≤◌, ◌<◌, IfErr, IfOk};
+ghost use Rattle.std.specs.List.{All};
+ghost use Rattle.bank_server.specs.Clients.{fresh_client};
+ghost use Rattle.bank_server.specs.Execution.{HasNoEntries};
+ghost use Rattle.bank_clients.specs.Sessions.{outside_of};
+ghost use Rattle.bank_service.specs.ServeFaults.{IsServingFault};
+ghost use Rattle.bank_service.specs.ServedAtOnce.{ServesAtOnce};
+
+use crate::many_server::ManyServer;
+use crate::serve_fault::ServeFault;
+use bank_clients::Connections;
+use bank_server::{ReadyFollowers, with_team};
+use cown_bench::WORKERS;
+use cown_workers::OpenGate;
+use sb_ask_log::Keeper;
+use sb_checkpoint::CheckpointStore;
+use sb_sequencer::REPLICAS;
+use std::io::Write;
+use std::sync::Wait;
+use std::thread::Threads;
+use std::time::Clock;
+
+/// Serves many clients of a bank at once, whose node 0 has nothing of its log yet, and gives back the
+/// server.
+///
+/// First the log is executed. Then the address is printed, and a line for each session, as soon as it
+/// is over, node 0 has executed all that was asked, and it was sent to the followers. At the end, once
+/// the followers agree with node 0, the rows and their total are printed. If the log is kept in a
+/// file, its line is printed before the address, and once more before the rows.
+///
+/// The log is in the order in which what clients sent was taken. Each client gets the outcomes of its
+/// own asks, after its own flush, once the whole log is kept. A client at fault ends its own session
+/// only, and none waits for another one.
+///
+/// Fails as [`serve_bank`](crate::serve_bank) does. After a fault the rows aren't printed.
+pub fn serve_many<H, A, S, W, K>(
+    rt: &H,
+    server: ManyServer<A, S, W, K>,
+) -> Result<ManyServer<A, S, W, K>, ServeFault>
+where
+    H: Threads + Wait + Clock + Sync,
+    A: Connections + Drop,
+    S: CheckpointStore,
+    W: Write + Drop,
+    K: Keeper,
+    requires nodes { server.plan.nodes ≤ REPLICAS }
+    requires workers { server.plan.workers ≤ WORKERS }
+    requires opened { HasNoEntries server.primary.node.board }
+    requires fresh { All (λ client. client ≡ fresh_client) server.sessions.clients.all }
+    ensures served { IfOk result (λ bank. ServesAtOnce S.model K.Keeps K.opening server.plan server.port
+        (outside_of A.coming A.sent server.sessions.connections) (outside_of A.coming A.sent bank.sessions.connections)
+        server.sessions.clients.all bank.sessions.clients.all server.primary bank.primary
+        (W.contents server.writer) (W.contents bank.writer)) }
+    ensures fault { IfErr result (IsServingFault server.plan.nodes (0 < server.plan.workers) server.plan.saves
+        K.fails) }
+{
+    let followers = ReadyFollowers::open(
+        server.alloc,
+        server.primary.node(),
+        server.plan.nodes,
+        0,
+    )?;
+    let (alloc, workers) = (server.alloc, server.plan.workers);
+    with_team(rt, alloc, followers, workers, &OpenGate, server)?
+}
