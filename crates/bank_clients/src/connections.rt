@@ -2,7 +2,7 @@
 ghost use Rattle.std.specs.Prelude.{◌≡◌, ◌≤◌, ◌∷◌, [], length, take};
 ghost use Rattle.bank_clients.specs.History.{TakesBytes};
 
-use bank_server::Arrivals;
+use bank_server::{Arrivals, AskCounts};
 use std::io;
 
 /// The connections of clients, each at a place of its own. What clients send arrives there, and what
@@ -32,9 +32,9 @@ pub trait Connections: Arrivals {
     /// Whether the connection at a place failed, or was silent for too long.
     fn has_failed(&self, place: usize) -> bool;
 
-    /// Leaves the client at a place, which another one can have then. One at fault is notified that
-    /// nothing more comes, and what it still sends is skipped for a while.
-    fn leave(&mut self, place: usize, is_at_fault: bool)
+    /// Leaves the client at a place, which had these asks, and which another one can have then. One at
+    /// fault is notified that nothing more comes, and what it still sends is skipped for a while.
+    fn leave(&mut self, place: usize, is_at_fault: bool, counts: AskCounts)
         ensures coming { Self.coming self.new ≡ Self.coming self.old }
         ensures sent { Self.sent self.new ≡ Self.sent self.old };
 }

@@ -10,7 +10,7 @@ ghost use Rattle.bank_clients.specs.Sessions.{IsOver, outside_of};
 
 use crate::connections::Connections;
 use crate::delivery::{admit_all, deliver_new, deliver_rest};
-use bank_server::{Clients, Primary, SessionFault};
+use bank_server::{AskCounts, Clients, Primary, SessionFault};
 use cown_workers::Crew;
 use sb_ask_log::Keeper;
 use sb_checkpoint::CheckpointStore;
@@ -25,6 +25,8 @@ pub struct Over {
     pub place: usize,
     /// How it ended: with [`SessionFault::Device`] also if its connection doesn't take all outcomes.
     pub ending: Result<(), SessionFault>,
+    /// How many asks its client had.
+    pub counts: AskCounts,
 }
 
 /// The sessions of clients who are served at once, over their connections.
@@ -128,6 +130,8 @@ impl<A: Connections> Sessions<A> {
         ensures over { IfSome result (λ over. IfSome (slice_get self.old.clients.all over.place)
             (λ client. IsOver client over.ending)) }
         ensures there { IfSome result (λ over. over.place < length self.old.clients.all) }
+        ensures counts { IfSome result (λ over. IfSome (slice_get self.old.clients.all over.place)
+            (λ client. over.counts ≡ client.counts)) }
         ensures unchanged { self.new ≡ record self.old { leaving = self.new.leaving } }
     {
         for index in 0..self.leaving.len() {
@@ -144,19 +148,29 @@ impl<A: Connections> Sessions<A> {
         ensures over { IfSome result (λ over. IfSome (slice_get self.now.clients.all over.place)
             (λ client. IsOver client over.ending)) }
         ensures there { IfSome result (λ over. over.place < length self.now.clients.all) }
+        ensures counts { IfSome result (λ over. IfSome (slice_get self.now.clients.all over.place)
+            (λ client. over.counts ≡ client.counts)) }
     {
         let place = *self.leaving.get(index)?;
         if place >= self.clients.len() {
             return None;
         }
         let ending = self.clients.ending(place)?;
+        let counts = self.clients.ask_counts(place);
         if self.clients.outcomes(place).is_empty() {
-            return Some(Over { place, ending });
+            return Some(Over {
+                place,
+                ending,
+                counts,
+            });
         }
         // Who leaves too much unread isn't waited for.
         if ending == Err(SessionFault::Device) || self.connections.has_failed(place) {
-            let ending = Err(SessionFault::Device);
-            return Some(Over { place, ending });
+            return Some(Over {
+                place,
+                ending: Err(SessionFault::Device),
+                counts,
+            });
         }
         None
     }
@@ -172,7 +186,7 @@ impl<A: Connections> Sessions<A> {
             over.ending,
             Err(SessionFault::Frame(_) | SessionFault::Unexpected | SessionFault::TooMany)
         );
-        self.connections.leave(over.place, is_at_fault);
+        self.connections.leave(over.place, is_at_fault, over.counts);
     }
 }
 

@@ -6,7 +6,7 @@ use crate::connections::Connections;
 use crate::slot::Slot;
 use crate::socket_places::{Sign, SocketPlaces, earlier, has_come};
 use crate::traffic::Traffic;
-use bank_server::{Arrival, Arrivals};
+use bank_server::{Arrival, Arrivals, AskCounts};
 use mio::net::{TcpListener, TcpStream};
 use mio::{Events, Interest, Poll, Token};
 use std::alloc::Global;
@@ -231,7 +231,7 @@ impl<'a, H: Clock> Connections for ClientSockets<'a, H> {
         self.places.has_failed(place)
     }
 
-    fn leave(&mut self, place: usize, is_at_fault: bool) {
+    fn leave(&mut self, place: usize, is_at_fault: bool, _counts: AskCounts) {
         self.places.leave_place(place, is_at_fault, self.now);
     }
 }

@@ -1,30 +1,34 @@
 //! What is told of a session that is over.
 use bank_clients::Traffic;
+use bank_server::AskCounts;
 use jiff::Timestamp;
 use std::fmt;
 use std::time::Clock;
 
-// How many bytes an outcome has.
-const OUTCOME: u64 = 21;
-
-/// What is told of a session that is over: when, whose it was, how many outcomes were told, how many bytes came
-/// and went, and how many seconds it lasted.
+/// What is told of a session that is over: when, whose it was, how many asks it had, how many of them were
+/// new and how many repeats, how many bytes came and went, and how many seconds it lasted.
 #[derive(Clone, Copy)]
 pub struct SessionNote {
     /// When it was over, in seconds since 1970, if the clock says it.
     pub second: Option<i64>,
+    /// Its asks.
+    pub counts: AskCounts,
     /// What went over its connection.
     pub traffic: Traffic,
 }
 
 impl SessionNote {
     /// Of a session that is over now.
-    pub(crate) fn new(clock: &impl Clock, traffic: Traffic) -> SessionNote {
+    pub(crate) fn new(clock: &impl Clock, counts: AskCounts, traffic: Traffic) -> SessionNote {
         let second = match Timestamp::now(clock) {
             Ok(now) => Some(now.as_second()),
             Err(_) => None,
         };
-        SessionNote { second, traffic }
+        SessionNote {
+            second,
+            counts,
+            traffic,
+        }
     }
 
     /// Tells it on standard error. If that fails, the bank is served all the same.
@@ -50,10 +54,12 @@ impl fmt::Display for SessionNote {
         if let Some(peer) = peer {
             write!(f, "{peer} ")?;
         }
-        let (told, seconds, millis) = (written / OUTCOME, lasted.as_secs(), lasted.subsec_millis());
+        let (asks, new, repeats) = (self.counts.asks(), self.counts.entries, self.counts.repeats);
+        write!(f, "asks {asks} new {new} repeats {repeats} ")?;
+        let (seconds, millis) = (lasted.as_secs(), lasted.subsec_millis());
         write!(
             f,
-            "outcomes {told} read {read} written {written} seconds {seconds}.{millis:03}"
+            "read {read} written {written} seconds {seconds}.{millis:03}"
         )
     }
 }

@@ -5,6 +5,7 @@ ghost use Rattle.bank_service.specs.Sessions.{LeavesClient};
 use crate::counted_stream::{CountedReader, CountedWriter};
 use crate::session_note::SessionNote;
 use bank_clients::Traffic;
+use bank_server::AskCounts;
 use bank_service::{ClientListener, ClientStream};
 use std::io;
 use std::net::OpenStream;
@@ -54,6 +55,7 @@ impl<D: ClientListener> ClientListener for ToldListener<D> {
     fn leave_client(
         &mut self,
         client: ClientStream<CountedReader<D::Reader>, CountedWriter<D::Writer>>,
+        counts: AskCounts,
     ) -> io::Result<()>
         ensures left { OnOk result (LeavesClient client None None) }
     {
@@ -65,12 +67,13 @@ impl<D: ClientListener> ClientListener for ToldListener<D> {
                 written: writer.written,
                 lasted: self.lasted(),
             };
-            SessionNote::new(&self.rt, traffic).print_to_stderr(&self.rt);
+            SessionNote::new(&self.rt, counts, traffic).print_to_stderr(&self.rt);
         }
-        self.inner.leave_client(ClientStream {
+        let client = ClientStream {
             reader: reader.inner,
             writer: writer.inner,
-        })
+        };
+        self.inner.leave_client(client, counts)
     }
 
     fn port(&self) -> io::Result<u16> {

@@ -3,7 +3,7 @@ ghost use Rattle.std.specs.Prelude.{None};
 
 use crate::session_note::SessionNote;
 use bank_clients::{ClientSockets, Connections};
-use bank_server::{Arrival, Arrivals};
+use bank_server::{Arrival, Arrivals, AskCounts};
 use std::io;
 use std::time::Clock;
 
@@ -46,12 +46,12 @@ impl<'a, H: Clock> Connections for ToldSockets<'a, H> {
         self.inner.has_failed(place)
     }
 
-    fn leave(&mut self, place: usize, is_at_fault: bool) {
+    fn leave(&mut self, place: usize, is_at_fault: bool, counts: AskCounts) {
         if !self.is_quiet {
             if let Some(traffic) = self.inner.traffic(place) {
-                SessionNote::new(&self.rt, traffic).print_to_stderr(&self.rt);
+                SessionNote::new(&self.rt, counts, traffic).print_to_stderr(&self.rt);
             }
         }
-        self.inner.leave(place, is_at_fault);
+        self.inner.leave(place, is_at_fault, counts);
     }
 }

@@ -6,6 +6,7 @@ ghost use Rattle.ask_client.specs.Connections.{LeavesStream};
 use crate::device::Device;
 use crate::trouble::Trouble;
 use ask_client::{Dialer, ServerStream};
+use bank_server::AskCounts;
 use bank_service::{ClientListener, ClientStream};
 use sb_checkpoint::{FileWithSpare, StoreFault};
 use std::io;
@@ -102,10 +103,14 @@ impl<D: ClientListener> ClientListener for Watch<'_, '_, D> {
         self.trouble.noted(self.device, done)
     }
 
-    fn leave_client(&mut self, client: ClientStream<D::Reader, D::Writer>) -> io::Result<()>
+    fn leave_client(
+        &mut self,
+        client: ClientStream<D::Reader, D::Writer>,
+        counts: AskCounts,
+    ) -> io::Result<()>
         ensures left { OnOk result (LeavesClient client (D.clients self.old.inner) (D.clients self.new.inner)) }
     {
-        let done = self.inner.leave_client(client);
+        let done = self.inner.leave_client(client, counts);
         self.trouble.noted(self.device, done)
     }
 

@@ -9,9 +9,11 @@ use Rattle.sb_frames.specs.Streaming.{IsShort, StreamState, empty_stream}
 use Rattle.sb_frames.specs.declared.fault.FrameFault.TheVariants.{Short}
 use Rattle.sb_frames.specs.declared.frame.Frame as wire
 use Rattle.sb_sequencer.specs.Numbering.{first_asks}
+use Rattle.bank_server.specs.AskCounts.{no_asks}
 use Rattle.bank_server.specs.Pending.{ArePendingWithin, pending_ask, unflushed_asks}
 use Rattle.bank_server.specs.Session.{IsFromClient, ask_of_frame, asks_in, outcomes_of}
 use Rattle.bank_server.specs.SessionResults.{IsFaultAt}
+use Rattle.bank_server.specs.declared.node0.ask_counts.AskCounts.{AskCounts}
 use Rattle.bank_server.specs.declared.session.TheConstants.{ASKS_BEFORE_FLUSH, UNREAD_BYTES}
 use Rattle.bank_server.specs.declared.session.inbox.PendingAsk.{PendingAsk}
 use Rattle.bank_server.specs.declared.session.session_fault.SessionFault.{SessionFault}
@@ -25,12 +27,13 @@ End = Result (Unit {0}) SessionFault
 
 -- a client: its bytes that aren't a whole frame yet; its asks whose outcomes it wasn't given, of
 -- which a flush follows the first ones, that are due; the outcomes that its connection hasn't
--- taken; and how it ended
+-- taken; how many asks it had; and how it ended
 pub record ClientOf : Type 0 where
   pub stream : StreamState
   pub pending : List PendingAsk
   pub due : ℕ
   pub outcomes : List ℕ
+  pub counts : AskCounts
   pub ending : Option End
 
 -- the clients, and those of them that the last turn told something, or that ended in it
@@ -40,7 +43,8 @@ pub record ClientsOf : Type 0 where
 
 -- a client before its first byte
 abbrev pub fresh_client : ClientOf
-fresh_client = record { stream = empty_stream; pending = []; due = 0; outcomes = []; ending = None }
+fresh_client =
+    record { stream = empty_stream; pending = []; due = 0; outcomes = []; counts = no_asks; ending = None }
 
 -- in a log of this many calls: its asks have their places there, at most so many wait for a flush,
 -- and until it ends its stream hasn't failed and few outcomes are unread

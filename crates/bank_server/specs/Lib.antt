@@ -1,4 +1,5 @@
 pub mod Agreement
+pub mod AskCounts
 pub mod AskResults
 pub mod Asks
 pub mod Clients

@@ -11,6 +11,7 @@ use Rattle.sb_replica.specs.Replica.{ReplicaOf, replica_at_opening, rest_of}
 use Rattle.sb_sequencer.specs.Numbering.{IsLog, calls_of}
 use Rattle.sb_ask_log.specs.Keeping.{KeeperGoesOn}
 use Rattle.bank_server.specs.Execution.{IsWholeLog, IsOneByOne}
+use Rattle.bank_server.specs.declared.node0.ask_counts.AskCounts.{AskCounts}
 
 -- the ops of a log's calls, by these names
 abbrev pub log_ops : List (List ℕ) → List (Key × Call) → List Op
@@ -22,9 +23,11 @@ pub record HasPrefixOf (ops : List Op) (board : BoardOf Op) : Type 0 where
   pub uncut : board.cut ≡ None
   pub begins : (rest : List Op) × (ops ≡ board.log ++ rest)
 
--- the log, the replica that is node 0, and the keeper of the log
+-- the log, how many asks it answered since it was opened, the replica that is node 0, and the keeper of
+-- the log
 pub record PrimaryOf (S K : Type 0) : Type 0 where
   pub log : List (Key × Call)
+  pub counts : AskCounts
   pub node : ReplicaOf S
   pub keeper : K
 

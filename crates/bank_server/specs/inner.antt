@@ -2,6 +2,7 @@ pub mod Appends
 pub mod AskSteps
 pub mod ClientSteps
 pub mod ClientTurns
+pub mod CountedAsks
 pub mod FlushFaults
 pub mod KeptPrimary
 pub mod NumberedAsks

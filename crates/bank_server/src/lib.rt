@@ -16,7 +16,7 @@ pub use fault::{InputFault, RunFault};
 pub use followers::{Followers, ReadyFollowers, StrayReason, agree, difference, with_followers};
 pub use input::{LogNumber, PreparedInput, Standing, ask_lines, prepare};
 pub use laws::{answers_are_final, client_bounds, told_outcomes_stand};
-pub use node0::{Duty, Primary, SaveFault, WorkerCount, carry_out_log, with_team};
+pub use node0::{AskCounts, Duty, Primary, SaveFault, WorkerCount, carry_out_log, with_team};
 pub use run::run_text;
 pub use session::{
     ASKS_BEFORE_FLUSH, ASKS_OF_SESSION, Arrival, Arrivals, Clients, PendingAsk, READ_BYTES,

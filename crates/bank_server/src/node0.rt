@@ -1,5 +1,6 @@
 //! Node 0: the log that it executes, and who executes it.
 
+mod ask_counts;
 mod execution;
 mod primary;
 mod resolving;
@@ -7,6 +8,7 @@ mod save_fault;
 mod team;
 mod whole_log;
 
+pub use ask_counts::AskCounts;
 pub(crate) use execution::PART;
 pub use primary::Primary;
 pub(crate) use primary::open_boxed;

@@ -7,6 +7,7 @@ use crate::client_stream::ClientStream;
 use crate::first_look::FirstLook;
 use crate::socket_writer::SocketWriter;
 use bank_clients::is_of_a_client;
+use bank_server::AskCounts;
 use std::io;
 use std::io::{Read, Write};
 use std::net::{OpenListener, OpenStream};
@@ -33,8 +34,12 @@ pub trait ClientListener {
     fn accept_client(&mut self) -> io::Result<ClientStream<Self::Reader, Self::Writer>>
         ensures next { IfOk result (λ client. AcceptsNext client (clients self.old) (clients self.new)) };
 
-    /// Leaves a client: nothing is read from it any more, or written to it.
-    fn leave_client(&mut self, client: ClientStream<Self::Reader, Self::Writer>) -> io::Result<()>
+    /// Leaves a client, which had these asks: nothing is read from it any more, or written to it.
+    fn leave_client(
+        &mut self,
+        client: ClientStream<Self::Reader, Self::Writer>,
+        counts: AskCounts,
+    ) -> io::Result<()>
         ensures left { OnOk result (LeavesClient client (clients self.old) (clients self.new)) };
 
     /// The port at which it listens.
@@ -113,6 +118,7 @@ where
     fn leave_client(
         &mut self,
         client: ClientStream<L::Stream, SocketWriter<L::Stream>>,
+        _counts: AskCounts,
     ) -> io::Result<()>
         ensures left { OnOk result (LeavesClient client None None) }
     {

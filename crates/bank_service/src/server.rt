@@ -173,14 +173,16 @@ where
         // client whose stream ends while the server goes on knows that its asks are saved.
         let mut client = self.listener.accept_client()?;
         let (alloc, patience) = (self.alloc, self.plan.patience);
+        let before = self.primary.counts();
         let served = serve_client(alloc, patience, &mut client, &mut self.primary, crew);
+        let counts = self.primary.counts().since(&before);
         if let Some(fault) = ending_fault(served) {
             return print_session(alloc, number, served, &mut self.writer).and(Err(fault));
         }
         finish_session(&mut self.primary, followers, self.plan.saves, crew)?;
         let printed = print_session(alloc, number, served, &mut self.writer);
         dismiss_client(rt, &mut client.reader, served);
-        self.listener.leave_client(client)?;
+        self.listener.leave_client(client, counts)?;
         printed
     }
 }

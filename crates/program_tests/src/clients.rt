@@ -3,6 +3,7 @@ ghost use Rattle.std.specs.Counts.{IsPrefixLen};
 ghost use Rattle.std.specs.Prelude.{IfOk, OnOk, Some};
 ghost use Rattle.bank_service.specs.Sessions.{LeavesClient};
 
+use bank_server::AskCounts;
 use bank_service::{ClientListener, ClientStream};
 use std::alloc::{AllocError, Global};
 use std::cell::{Cell, RefCell};
@@ -197,7 +198,7 @@ impl<'c, 't> ClientListener for TestListener<'c, 't> {
         }
     }
 
-    fn leave_client(&mut self, client: Stream<'c, 't>) -> io::Result<()>
+    fn leave_client(&mut self, client: Stream<'c, 't>, _counts: AskCounts) -> io::Result<()>
         ensures left { OnOk result (LeavesClient client.entry
             (Some (record { coming = self.old.coming.items; left = self.old.left.items }))
             (Some (record { coming = self.new.coming.items; left = self.new.left.items }))) }

@@ -3,6 +3,7 @@ ghost use Rattle.std.specs.Prelude.{OnOk, Some};
 ghost use Rattle.bank_service.specs.Sessions.{LeavesClient};
 
 use crate::served::{ASKED, DEPOSIT, GARBAGE, HERE, OPENING, TOLD};
+use bank_server::AskCounts;
 use bank_service::{ClientListener, ClientStream, serve};
 use program_words::Plan;
 use sb_checkpoint::MemoryStore;
@@ -57,7 +58,7 @@ impl<'a> ClientListener for Known<'a> {
         }
     }
 
-    fn leave_client(&mut self, client: Stream<'a>) -> io::Result<()>
+    fn leave_client(&mut self, client: Stream<'a>, _counts: AskCounts) -> io::Result<()>
         ensures left { OnOk result (LeavesClient client.entry
             (Some (record { coming = self.old.coming.items; left = self.old.left.items }))
             (Some (record { coming = self.new.coming.items; left = self.new.left.items }))) }

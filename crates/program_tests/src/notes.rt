@@ -1,6 +1,7 @@
 //! What is told of a session that is over.
 use bank_clients::Traffic;
 use bank_program::SessionNote;
+use bank_server::AskCounts;
 use std::net::{IpAddr, Ipv4Addr, SocketAddr};
 use std::time::Duration;
 
@@ -8,9 +9,14 @@ use std::time::Duration;
 fn notes_of_sessions(rt: HostRuntime) {
     let traffic = Traffic {
         peer: Some(SocketAddr::new(IpAddr::V4(Ipv4Addr::LOCALHOST), 4000)),
-        read: 1_000,
-        written: 63,
+        read: 9,
+        written: 6,
         lasted: Duration::from_millis(12_034),
+    };
+    let counts = AskCounts {
+        entries: 2,
+        repeats: 30,
+        refusals: 400,
     };
     let unknown = Traffic {
         peer: None,
@@ -21,15 +27,19 @@ fn notes_of_sessions(rt: HostRuntime) {
         (
             Some(86_400),
             traffic,
-            "smallbank: 1970-01-02T00:00:00Z 127.0.0.1:4000 outcomes 3 read 1000 written 63 seconds 12.034",
+            "smallbank: 1970-01-02T00:00:00Z 127.0.0.1:4000 asks 432 new 2 repeats 30 read 9 written 6 seconds 12.034",
         ),
         (
             None,
             unknown,
-            "smallbank: outcomes 3 read 1000 written 63 seconds 0.000",
+            "smallbank: asks 432 new 2 repeats 30 read 9 written 6 seconds 0.000",
         ),
     ] {
-        let note = SessionNote { second, traffic };
+        let note = SessionNote {
+            second,
+            counts,
+            traffic,
+        };
         let told = format!(in rt.alloc(); "{note}").expect(&rt, "memory for a text");
         assert!(&rt; told.as_str() == wanted, "{told}");
     }

@@ -6,7 +6,7 @@ ghost use Rattle.bank_server.specs.Clients.{IsReady};
 use crate::bank::{expect, expect_bytes, joined, opened};
 use crate::wire::{DEPOSIT, DONE, FLUSH, OTHER};
 use bank_clients::{Connections, Over, Sessions};
-use bank_server::{Arrival, Arrivals, Primary, SessionFault};
+use bank_server::{Arrival, Arrivals, AskCounts, Primary, SessionFault};
 use cown_workers::InlineCrew;
 use sb_checkpoint::MemoryStore;
 use sb_frames::FrameFault;
@@ -40,7 +40,7 @@ struct Wires<'a> {
     came: usize,
     taken: usize,
     sent: Vec<Vec<u8>>,
-    left: Vec<(usize, bool)>,
+    left: Vec<(usize, bool, AskCounts)>,
 }
 
 impl<'a> Wires<'a> {
@@ -111,8 +111,8 @@ impl Connections for Wires<'_> {
         self.now().broken.contains(&place)
     }
 
-    fn leave(&mut self, place: usize, is_at_fault: bool) {
-        let _ = self.left.push((place, is_at_fault));
+    fn leave(&mut self, place: usize, is_at_fault: bool, counts: AskCounts) {
+        let _ = self.left.push((place, is_at_fault, counts));
     }
 }
 
@@ -183,22 +183,45 @@ fn expect_case(rt: &impl Abort, alloc: Global, case: &Case) {
         let wanted = joined(rt, alloc, wanted);
         expect_bytes(rt, bytes, &wanted, "what a connection took");
     }
-    for ((place, is_at_fault), over) in wires.left.iter().zip(&over) {
+    for ((place, is_at_fault, counts), over) in wires.left.iter().zip(&over) {
         let broke_a_rule = matches!(
             over.ending,
             Err(SessionFault::Frame(_) | SessionFault::Unexpected | SessionFault::TooMany)
         );
         expect(rt, *place == over.place, "who is left");
         expect(rt, *is_at_fault == broke_a_rule, "who is notified");
+        expect(rt, *counts == over.counts, "whose asks are told");
     }
     expect(rt, primary.log().length() == case.calls, "the log");
 }
 
 const ENDED: Result<(), SessionFault> = Ok(());
 
+const NO_ASK: AskCounts = AskCounts {
+    entries: 0,
+    repeats: 0,
+    refusals: 0,
+};
+
+const ONE_NEW: AskCounts = AskCounts {
+    entries: 1,
+    ..NO_ASK
+};
+
+const ONE_REPEAT: AskCounts = AskCounts {
+    repeats: 1,
+    ..NO_ASK
+};
+
 // The outcome of client 7's deposit for alice.
 const OTHER_DONE: &[u8] =
     b"\x00\x13\x05\x00\x00\x00\x07\x00\x00\x00\x01\x00\x01\x00\x00\x00\x00\x00\x00\x00\x00";
+
+// Twice that deposit, and another call under its key.
+const THREE_OTHERS: &[u8] =
+    b"\x00\x18\x01\x00\x00\x00\x07\x00\x00\x00\x01\x02\x05alice\x00\x00\x00\x00\x00\x00\x00\x64\
+    \x00\x18\x01\x00\x00\x00\x07\x00\x00\x00\x01\x02\x05alice\x00\x00\x00\x00\x00\x00\x00\x64\
+    \x00\x10\x01\x00\x00\x00\x07\x00\x00\x00\x01\x01\x05alice";
 
 const CASES: &[Case<'static>] = &[
     // A connection takes ten bytes at once, so that it takes rounds. Meanwhile the other is told all.
@@ -224,6 +247,7 @@ const CASES: &[Case<'static>] = &[
         over: &[Over {
             place: 0,
             ending: ENDED,
+            counts: ONE_NEW,
         }],
         calls: 2,
     },
@@ -251,10 +275,12 @@ const CASES: &[Case<'static>] = &[
             Over {
                 place: 1,
                 ending: Err(SessionFault::Frame(FrameFault::UnknownTag)),
+                counts: ONE_NEW,
             },
             Over {
                 place: 1,
                 ending: ENDED,
+                counts: ONE_REPEAT,
             },
         ],
         calls: 1,
@@ -283,6 +309,7 @@ const CASES: &[Case<'static>] = &[
         over: &[Over {
             place: 0,
             ending: Err(SessionFault::Device),
+            counts: ONE_NEW,
         }],
         calls: 1,
     },
@@ -303,7 +330,49 @@ const CASES: &[Case<'static>] = &[
         over: &[Over {
             place: 0,
             ending: Err(SessionFault::Device),
+            counts: NO_ASK,
         }],
+        calls: 1,
+    },
+    // Each client's asks are its own, also where another one's come between them: one is new, the others
+    // are repeats or a mismatch.
+    Case {
+        rounds: &[
+            Round {
+                guests: &[0, 1],
+                pieces: &[(0, Some(OTHER)), (1, Some(THREE_OTHERS))],
+                ..QUIET
+            },
+            Round {
+                pieces: &[(0, Some(OTHER)), (1, Some(b""))],
+                ..QUIET
+            },
+            Round {
+                pieces: &[(0, Some(b""))],
+                ..QUIET
+            },
+        ],
+        sent: [&[], &[]],
+        over: &[
+            Over {
+                place: 1,
+                ending: ENDED,
+                counts: AskCounts {
+                    entries: 0,
+                    repeats: 2,
+                    refusals: 1,
+                },
+            },
+            Over {
+                place: 0,
+                ending: ENDED,
+                counts: AskCounts {
+                    entries: 1,
+                    repeats: 1,
+                    refusals: 0,
+                },
+            },
+        ],
         calls: 1,
     },
 ];

@@ -1,9 +1,10 @@
 -- The ops of a log while a node executes them.
 use Rattle.std.proofs.Common.{◌≡◌, ℕ, zero, suc, Bool, false, Option, Some, None, List, [], ◌∷◌, ◌++◌, length, map, sym, ap, subst, ◌∙◌, append_assoc}
 use Rattle.std.specs.Prelude.{slice_get}
-use Rattle.std.proofs.lemmas.List.{length-map}
+use Rattle.std.proofs.lemmas.List.{length-map, map-append}
 use Rattle.sb_calls.specs.declared.ask.Key.{Key}
 use Rattle.sb_calls.specs.declared.call.Call.{Call}
+use Rattle.sb_calls.specs.Op.{op_of}
 use Rattle.sb_calls.specs.declared.op.Op.{Op}
 use Rattle.cown_board.specs.Board.{BoardOf}
 use Rattle.cown_workers.specs.Draining.{HasNoneOut, PreservesLog}
@@ -12,12 +13,13 @@ use Rattle.cown_workers.specs.declared.crew_fault.CrewFault.TheVariants as crew
 use Rattle.sb_replica.specs.Replica.{ReplicaOf, RestOf, rest_of}
 use Rattle.sb_rows.specs.Balances.{Balances}
 use Rattle.sb_rows.specs.Rows.{SameCustomers}
-use Rattle.sb_sequencer.specs.Numbering.{call_of_number, calls_of}
+use Rattle.sb_sequencer.specs.Numbering.{IsLog, call_of_number, calls_of}
 use Rattle.bank_server.specs.Faults.{IsExecutionFault}
 use Rattle.bank_server.specs.Primary.{HasPrefixOf, log_ops}
 use Rattle.bank_server.specs.inner.Appends.{AppendsOps}
 use Rattle.bank_server.specs.inner.KeptPrimary.{IsKeptPrimary}
 use Rattle.bank_server.specs.SessionFaults.{LosesCrew, LosesLog}
+use Rattle.bank_server.specs.declared.node0.ask_counts.AskCounts.{AskCounts}
 use Rattle.bank_server.specs.inner.FlushFaults.{session_of_crew_fault}
 
 some_is : {A : Type 0} {x y : A} → ◌≡◌ {A = Option A} (Some x) (Some y) → x ≡ y
@@ -66,15 +68,49 @@ one_more_op ops log rest op is at =
 pub length-ops : (f : Call → Op) (log : List (Key × Call)) → length (map f (calls_of log)) ≡ length log
 length-ops f log = length-map (calls_of log) f ∙ length-map log (λ entry. entry.1)
 
+-- ---- node 0, while its log grows
+
+-- it has a beginning of a longer log too
+pub kept_by_more : {S K : Type 0} (keeps : K → List (Key × Call) → Type 0) (old new more : List (Key × Call)) (counts now : AskCounts) (keeper : K)
+    (node : ReplicaOf S)
+    → IsKeptPrimary keeps (record { log = old; counts = counts; node = node; keeper = keeper }) → IsLog new → new ≡ old ++ more
+    → IsKeptPrimary keeps (record { log = new; counts = now; node = node; keeper = keeper })
+kept_by_more keeps old new more counts now keeper node kept valid longer =
+    let behind = kept.valid.behind in
+    let added = log_ops node.names more in
+    let ops : log_ops node.names new ≡ log_ops node.names old ++ added =
+    ap (log_ops node.names) longer ∙ ap (map (op_of node.names)) (map-append (λ (entry : Key × Call). entry.1) old more)
+    ∙ map-append (op_of node.names) (calls_of old) (calls_of more) in
+    record {
+      valid = record {
+        log = valid;
+        customers = kept.valid.customers;
+        behind = record {
+          base_replies = behind.base_replies;
+          uncut = behind.uncut;
+          begins = (
+            behind.begins.0 ++ added,
+            ops ∙ ap (λ (l : List Op). l ++ added) behind.begins.1 ∙ append_assoc node.board.log behind.begins.0 added,
+          );
+        };
+      };
+      begins = (
+        kept.begins.0,
+        kept.begins.1,
+        kept.begins.2 ++ more,
+        longer ∙ ap (λ (l : List (Key × Call)). l ++ more) kept.begins.3 ∙ append_assoc kept.begins.0 kept.begins.2 more,
+      );
+    }
+
 -- ---- node 0, one op later
 
-module _ {S K : Type 0} (keeps : K → List (Key × Call) → Type 0) (log : List (Key × Call)) (keeper : K) (old new : ReplicaOf S)
-    (kept : IsKeptPrimary keeps (record { log = log; node = old; keeper = keeper })) (same : rest_of new ≡ rest_of old) where
+module _ {S K : Type 0} (keeps : K → List (Key × Call) → Type 0) (log : List (Key × Call)) (counts : AskCounts) (keeper : K) (old new : ReplicaOf S)
+    (kept : IsKeptPrimary keeps (record { log = log; counts = counts; node = old; keeper = keeper })) (same : rest_of new ≡ rest_of old) where
   names_same : new.names ≡ old.names
   names_same = ap (λ (r : RestOf S). r.names) same
 
   with_board : new.board.opening ≡ old.board.opening → HasPrefixOf (log_ops old.names log) new.board
-      → IsKeptPrimary keeps (record { log = log; node = new; keeper = keeper })
+      → IsKeptPrimary keeps (record { log = log; counts = counts; node = new; keeper = keeper })
   with_board opening behind = record {
     valid = record {
       log = kept.valid.log;
@@ -87,7 +123,7 @@ module _ {S K : Type 0} (keeps : K → List (Key × Call) → Type 0) (log : Lis
 
   -- it has put the next op
   pub kept_by_one : (op : Op) → AppendsOps (op ∷ []) old.board new.board → slice_get (log_ops old.names log) (length old.board.log) ≡ Some op
-      → IsKeptPrimary keeps (record { log = log; node = new; keeper = keeper })
+      → IsKeptPrimary keeps (record { log = log; counts = counts; node = new; keeper = keeper })
   kept_by_one op put here =
       let behind = kept.valid.behind in
       let more = one_more_op (log_ops old.names log) old.board.log behind.begins.0 op behind.begins.1 here in
@@ -98,7 +134,7 @@ module _ {S K : Type 0} (keeps : K → List (Key × Call) → Type 0) (log : Lis
       })
 
   -- it has its log still
-  pub kept_by_same : PreservesLog old.board new.board → IsKeptPrimary keeps (record { log = log; node = new; keeper = keeper })
+  pub kept_by_same : PreservesLog old.board new.board → IsKeptPrimary keeps (record { log = log; counts = counts; node = new; keeper = keeper })
   kept_by_same stays =
       let behind = kept.valid.behind in
       with_board stays.opening (record {

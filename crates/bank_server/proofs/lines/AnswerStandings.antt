@@ -1,5 +1,8 @@
 -- From the sequencer's answer to the standing of a line.
-use Rattle.std.proofs.Common.{◌≡◌, ℕ, ◌≤◌, ◌^◌, Option, Some, None, Result, Ok, Err, is_some, false, List, [], ◌∷◌, ◌++◌, refl, sym, ap, ◌∙◌}
+use Rattle.std.proofs.Common.{◌≡◌, ℕ, ◌+◌, ◌==◌, ◌≤◌, ◌^◌, Option, Some, None, Result, Ok, Err, is_some, false, List, [], ◌∷◌, ◌++◌, length, refl, sym, ap, ◌∙◌, arith}
+use Rattle.std.proofs.lemmas.Bool.{cond-false, cond-true, ne_eqb}
+use Rattle.std.proofs.lemmas.Option.{slice_get_within}
+use Rattle.sb_calls.proofs.CownContents.{eqb-refl}
 use Rattle.sb_calls.specs.declared.ask.AskLine.{AskLine}
 use Rattle.sb_calls.specs.declared.ask.Key.{Key}
 use Rattle.sb_calls.specs.declared.call.Call.{Call}
@@ -12,6 +15,8 @@ use Rattle.sb_sequencer.specs.declared.answer.AskFault.TheVariants as faults
 use Rattle.sb_sequencer.specs.declared.answer.Numbered.{Numbered}
 use Rattle.sb_sequencer.specs.declared.answer.Numbered.TheVariants.{New, Repeat}
 use Rattle.bank_server.specs.inner.AskSteps.{IsAfterAsks, AddsAsk, AddsLineAsk}
+use Rattle.bank_server.specs.inner.CountedAsks.{counts_by, counts_with}
+use Rattle.bank_server.specs.declared.node0.ask_counts.AskCounts.{AskCounts}
 use Rattle.bank_server.specs.AskResults.{standing_of_answer}
 use Rattle.bank_server.specs.Asks.{key_of_line, asks_with_keys}
 use Rattle.bank_server.specs.Standing.{standing_of}
@@ -49,6 +54,20 @@ numbers_so asks old new ask (Ok (Repeat n)) standing is e numbered = numbered e
 numbers_so asks old new ask (Err (faults.Mismatch n)) standing is e numbered = numbered e
 numbers_so asks old new ask (Err faults.LogFull) standing is e numbered = numbered e
 numbers_so asks old new ask (Err faults.OutOfMemory) standing is e numbered = absurd (none_is_some is)
+
+-- and it is counted by its standing
+pub counted_so : (counts : AskCounts) (old : List (Key × Call)) (ask : Key × Call) (answer : Result Numbered AskFault) (standing : Standing)
+    → standing_of_answer answer ≡ Some standing → AnswersAsk old ask answer → counts_with counts answer ≡ counts_by (length old) standing counts
+counted_so counts old ask (Ok (New n)) standing is answered =
+    sym (cond-true (n == length old + 1) _ _ (ap (λ m. m == length old + 1) answered.2 ∙ eqb-refl (length old + 1)))
+    ∙ ap (λ s. counts_by (length old) s counts) (some_is is)
+counted_so counts old ask (Ok (Repeat n)) standing is answered =
+    let before = slice_get_within old answered.0 ask answered.3 in
+    sym (cond-false (n == length old + 1) _ _ (ne_eqb n (length old + 1) (λ same. omega (arith, same, before, answered.2))))
+    ∙ ap (λ s. counts_by (length old) s counts) (some_is is)
+counted_so counts old ask (Err (faults.Mismatch n)) standing is answered = ap (λ s. counts_by (length old) s counts) (some_is is)
+counted_so counts old ask (Err faults.LogFull) standing is answered = ap (λ s. counts_by (length old) s counts) (some_is is)
+counted_so counts old ask (Err faults.OutOfMemory) standing is answered = absurd (none_is_some is)
 
 -- what the sequencer promises of an answer gives the standing
 pub asks_one : (asks old new : List (Key × Call)) (ask : Key × Call) (answer : Result Numbered AskFault) (standing : Standing)

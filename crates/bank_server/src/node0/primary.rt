@@ -9,7 +9,9 @@ ghost use Rattle.sb_replica.specs.Replica.{rest_of, replica_at_opening};
 ghost use Rattle.sb_sequencer.specs.Numbering.{IsLog, calls_of, first_asks};
 ghost use Rattle.sb_sequencer.specs.Sequencer.{empty_sequencer};
 ghost use Rattle.sb_ask_log.specs.Keeping.{KeepsBeginning};
+ghost use Rattle.bank_server.specs.AskCounts.{no_asks};
 ghost use Rattle.bank_server.specs.inner.AskSteps.{AddsAsk};
+ghost use Rattle.bank_server.specs.inner.CountedAsks.{counts_by};
 ghost use Rattle.bank_server.specs.Execution.{HasNoEntries};
 ghost use Rattle.bank_server.specs.Faults.{IsExecutionFault};
 ghost use Rattle.bank_server.specs.Primary.{HasWholeLog, IsPrimary, PreservesBank, RunsLog, log_ops, node_at_opening};
@@ -19,6 +21,7 @@ ghost use Rattle.bank_server.specs.ServesOn.{ServesOn};
 ghost use Rattle.bank_server.specs.SessionFaults.{IsLogFault, IsSettleFault};
 ghost use Rattle.bank_server.specs.Standing.{IsStandingWithin};
 
+use super::ask_counts::AskCounts;
 use super::execution::{execute_calls, execute_unfinished, submit_op};
 use super::save_fault::SaveFault;
 use crate::followers::Followers;
@@ -42,6 +45,7 @@ use std::sync::Wait;
 pub struct Primary<S: CheckpointStore, K: Keeper = NoKeeper> {
     alloc: Global,
     log: Box<Sequencer>,
+    counts: AskCounts,
     node: Box<Replica<S>>,
     keeper: K,
 }
@@ -52,10 +56,16 @@ impl<S: CheckpointStore, K: Keeper> Model for Primary<S, K> {
 
     ghost Value = { PrimaryOf S K };
 
-    ghost view = { λ p. record { log = p.log.value.log; node = p.node.value; keeper = p.keeper } };
+    ghost view = { λ p. record {
+      log = p.log.value.log;
+      counts = p.counts;
+      node = p.node.value;
+      keeper = p.keeper;
+    } };
 
     ghost invariant = { λ p. IsKeptPrimary K.Keeps (record {
       log = p.log.value.log;
+      counts = p.counts;
       node = p.node.value;
       keeper = p.keeper;
     }) };
@@ -65,6 +75,7 @@ impl<S: CheckpointStore> Primary<S> {
     /// An empty log, and node 0 at this opening. The store isn't touched.
     pub fn open(alloc: Global, opening: Opening, store: S) -> Result<Primary<S>, AllocError>
         ensures log { IfOk result (λ primary. primary.log ≡ []) }
+        ensures counts { IfOk result (λ primary. primary.counts ≡ no_asks) }
         ensures node { IfOk result (λ primary. primary.node ≡ node_at_opening opening store) }
     {
         Primary::with_capacity(alloc, opening, store, 0)
@@ -78,6 +89,7 @@ impl<S: CheckpointStore> Primary<S> {
         entries: usize,
     ) -> Result<Primary<S>, AllocError>
         ensures log { IfOk result (λ primary. primary.log ≡ []) }
+        ensures counts { IfOk result (λ primary. primary.counts ≡ no_asks) }
         ensures node { IfOk result (λ primary. primary.node ≡ node_at_opening opening store) }
     {
         let node = open_boxed(alloc, 0, opening.directory, opening.columns, store)?;
@@ -85,6 +97,7 @@ impl<S: CheckpointStore> Primary<S> {
         Ok(Primary {
             alloc,
             log,
+            counts: AskCounts::new(),
             node,
             keeper: NoKeeper,
         })
@@ -103,6 +116,7 @@ impl<S: CheckpointStore, K: Keeper> Primary<S, K> {
     ) -> Result<Primary<S, K>, AllocError>
         requires { KeepsBeginning K.Keeps keeper log.value.log }
         ensures log { IfOk result (λ primary. primary.log ≡ log.value.log) }
+        ensures counts { IfOk result (λ primary. primary.counts ≡ no_asks) }
         ensures node { IfOk result (λ primary. primary.node ≡ node_at_opening opening store) }
         ensures keeper { IfOk result (λ primary. primary.keeper ≡ keeper) }
     {
@@ -112,6 +126,7 @@ impl<S: CheckpointStore, K: Keeper> Primary<S, K> {
         Ok(Primary {
             alloc,
             log,
+            counts: AskCounts::new(),
             node,
             keeper,
         })
@@ -122,6 +137,13 @@ impl<S: CheckpointStore, K: Keeper> Primary<S, K> {
         ensures { result.now.log ≡ self.now.log }
     {
         &self.log
+    }
+
+    /// How many asks it answered since it was opened.
+    pub fn counts(&self) -> AskCounts
+        ensures { result ≡ self.now.counts }
+    {
+        self.counts
     }
 
     /// The log's keeper.
@@ -156,12 +178,16 @@ impl<S: CheckpointStore, K: Keeper> Primary<S, K> {
         ensures asked { IfOk result (λ standing. (asks : List (AnyKey × AnyCall)) → self.old.log ≡ first_asks asks
             → AddsAsk asks (key, call.now) self.new.log standing) }
         ensures among { IfOk result (IsStandingWithin (length self.new.log)) }
+        // It is counted once.
+        ensures counted { IfOk result (λ standing.
+            self.new.counts ≡ counts_by (length self.old.log) standing self.old.counts) }
         ensures numbered { NumbersAsks K.Keeps K.opening K.has_failed self.old self.new }
         ensures err { OnErr result (self.new ≡ self.old) }
     {
         let answer = self.log.ask(key.client, key.request, call);
         // The log has no more numbers than it takes.
         prove!(self.log.length() <= LOG_CALLS as u64);
+        self.counts.count_answer(answer);
         match standing_of(answer) {
             Some(standing) => Ok(standing),
             None => Err(AllocError),
@@ -174,6 +200,7 @@ impl<S: CheckpointStore, K: Keeper> Primary<S, K> {
     pub(crate) fn offer_rest<C: Crew>(&mut self, crew: &mut C) -> Result<(), SessionFault>
         ensures offered { OnOk result (self.new.node.board.log ≡ log_ops self.new.node.names self.new.log) }
         ensures log { self.new.log ≡ self.old.log }
+        ensures counts { self.new.counts ≡ self.old.counts }
         ensures one_each { IsLog self.new.log }
         // The bank goes on, after a fault too.
         ensures serves { ServesOn K.Keeps K.opening K.has_failed K.fails C.keeps result self.old self.new }
@@ -198,6 +225,7 @@ impl<S: CheckpointStore, K: Keeper> Primary<S, K> {
     pub fn settle<C: Crew>(&mut self, crew: &mut C) -> Result<(), SessionFault>
         ensures whole_log { OnOk result (HasWholeLog self.new) }
         ensures log { self.new.log ≡ self.old.log }
+        ensures counts { self.new.counts ≡ self.old.counts }
         // It has one number for each key.
         ensures one_each { IsLog self.new.log }
         // What was kept stays kept, and a crew that keeps no job leaves none out, after a fault too.

@@ -1,7 +1,9 @@
 //! A client who is served beside others.
 ghost use Rattle.std.specs.Prelude.{◌≡◌, ◌≢◌, ◌⊎◌, ◌≤◌, ◌<◌, length, drop, None, Some, Err, false, true, is_some, IfOk, IfSome, OnErr, OnOk};
+ghost use Rattle.bank_server.specs.AskCounts.{counts_since};
 ghost use Rattle.bank_server.specs.Clients.{IsSound, fresh_client, piece_of};
 ghost use Rattle.bank_server.specs.inner.ClientTurns.{HearsClient, TellsClient, ending_of};
+ghost use Rattle.bank_server.specs.inner.CountedAsks.{AddsCounts};
 ghost use Rattle.bank_server.specs.Primary.{HasWholeLog, opening_rows_of};
 ghost use Rattle.bank_server.specs.inner.NumberedAsks.{NumbersAsks};
 ghost use Rattle.bank_server.specs.declared.session.session_fault.SessionFault.TheVariants as faults;
@@ -9,7 +11,7 @@ ghost use Rattle.bank_server.specs.declared.session.session_fault.SessionFault.T
 use super::inbox::{Inbox, take_bytes};
 use super::session_fault::SessionFault;
 use super::{ASKS_BEFORE_FLUSH, UNREAD_BYTES};
-use crate::node0::Primary;
+use crate::node0::{AskCounts, Primary};
 use sb_ask_log::Keeper;
 use sb_checkpoint::CheckpointStore;
 use sb_frames::FrameFault;
@@ -23,6 +25,8 @@ pub(crate) struct Client {
     inbox: Inbox,
     // The outcomes that its connection hasn't taken.
     outcomes: Vec<u8>,
+    // How many asks it had.
+    counts: AskCounts,
     // How it ended.
     ending: Option<Result<(), SessionFault>>,
 }
@@ -37,6 +41,7 @@ impl Model for Client {
       pending = c.inbox.pending.items;
       due = c.inbox.due;
       outcomes = c.outcomes.items;
+      counts = c.counts;
       ending = c.ending;
     } };
 }
@@ -49,6 +54,7 @@ impl Client {
         Client {
             inbox: Inbox::new(alloc),
             outcomes: Vec::new(alloc),
+            counts: AskCounts::new(),
             ending: None,
         }
     }
@@ -58,6 +64,13 @@ impl Client {
         ensures { result.now ≡ self.now.outcomes }
     {
         &self.outcomes
+    }
+
+    /// How many asks it had.
+    pub(crate) fn ask_counts(&self) -> AskCounts
+        ensures { result ≡ self.now.counts }
+    {
+        self.counts
     }
 
     /// How it ended.
@@ -107,6 +120,9 @@ pub(crate) fn hear<S: CheckpointStore, K: Keeper>(
     ensures heard { OnOk result (HearsClient (opening_rows_of primary.old) primary.old.log client.old
         (piece_of chunk.now read) primary.new.log client.new) }
     ensures outcomes { client.new.outcomes ≡ client.old.outcomes }
+    // Its asks are counted, as the bank counts them.
+    ensures counted { AddsCounts client.old.counts (counts_since primary.new.counts primary.old.counts)
+        client.new.counts }
     // One that has ended stays as it ended.
     ensures over { is_some client.old.ending ≡ true → client.new.ending ≡ client.old.ending }
     ensures numbered { NumbersAsks K.Keeps K.opening K.has_failed primary.old primary.new }
@@ -153,9 +169,14 @@ fn hear_bytes<S: CheckpointStore, K: Keeper>(
     ensures heard { OnOk result (HearsClient (opening_rows_of primary.old) primary.old.log client.old
         (Some bytes.now) primary.new.log client.new) }
     ensures outcomes { client.new.outcomes ≡ client.old.outcomes }
+    ensures counted { AddsCounts client.old.counts (counts_since primary.new.counts primary.old.counts)
+        client.new.counts }
     ensures numbered { NumbersAsks K.Keeps K.opening K.has_failed primary.old primary.new }
 {
-    match take_bytes(bytes, ASKS_BEFORE_FLUSH, &mut client.inbox, primary) {
+    let before = primary.counts();
+    let taken = take_bytes(bytes, ASKS_BEFORE_FLUSH, &mut client.inbox, primary);
+    client.counts.add(&primary.counts().since(&before));
+    match taken {
         Ok(()) => Ok(()),
         Err(fault) => {
             client.ending = Some(Err(own_fault(fault)?));
@@ -188,6 +209,7 @@ pub(crate) fn tell_client<S: CheckpointStore, K: Keeper>(
     requires sound { IsSound (length primary.now.log) client.old }
     ensures sound { OnOk result (IsSound (length primary.now.log) client.new) }
     ensures none_due { OnOk result (client.new.due ≡ 0) }
+    ensures counts { client.new.counts ≡ client.old.counts }
     ensures told { OnOk result (TellsClient (opening_rows_of primary.now) primary.now.log client.old client.new) }
 {
     client.inbox.push_due(primary, &mut client.outcomes)?;

@@ -13,7 +13,7 @@ use super::places::{add_client, replace_client, take_sent};
 use super::session_fault::SessionFault;
 use super::telling::settle_and_keep;
 use super::turns::{take_arrivals, tell_all};
-use crate::node0::Primary;
+use crate::node0::{AskCounts, Primary};
 use cown_workers::Crew;
 use sb_ask_log::Keeper;
 use sb_checkpoint::CheckpointStore;
@@ -118,6 +118,14 @@ impl Clients {
         ensures { IfSome (slice_get self.now.all place) (λ client. result ≡ client.ending) }
     {
         self.all[place].ending()
+    }
+
+    /// How many asks a client had.
+    pub fn ask_counts(&self, place: usize) -> AskCounts
+        requires { place < length self.now.all }
+        ensures { IfSome (slice_get self.now.all place) (λ client. result ≡ client.counts) }
+    {
+        self.all[place].ask_counts()
     }
 
     /// A client's connection took this many bytes of its outcomes.

@@ -26,6 +26,7 @@ returns-in-None-clause-heard g c =
       pending = inside.inbox.pending.items;
       due = inside.inbox.due;
       outcomes = inside.outcomes.items;
+      counts = inside.counts;
       ending = inside.ending;
     } in
     let new : ClientOf = record old { ending = Some (Err Device) } in

@@ -20,6 +20,7 @@ returns-clause-told g c =
       pending = inside.inbox.pending.items;
       due = inside.inbox.due;
       outcomes = inside.outcomes.items;
+      counts = inside.counts;
       ending = inside.ending;
     } in
     let new : ClientOf = record {
@@ -27,6 +28,7 @@ returns-clause-told g c =
       pending = now.pending.items;
       due = now.due;
       outcomes = out;
+      counts = inside.counts;
       ending = c.ending_by-client-inside.result;
     } in
     let len : c.len.result ≡ length out = search rules in

@@ -25,7 +25,8 @@ returns-in_err-submit_op-clause-serves g c =
     let at : ReplicaOf g.row.S.Denot = loop.self-inside.node.value in
     let there : c.deref_mut.result.now ≡ at = c.deref_mut.ensures.value in
     record {
-      bank = kept_bank c.args.self.now (record { log = loop.self-inside.log.value.log; node = c.submit_op.new.replica; keeper = loop.self-inside.keeper })
+      bank = kept_bank c.args.self.now
+          (record { log = loop.self-inside.log.value.log; counts = loop.self-inside.counts; node = c.submit_op.new.replica; keeper = loop.self-inside.keeper })
           (c.submit_op.ensures.rest ∙ ap (λ (r : ReplicaOf g.row.S.Denot). rest_of r) there ∙ kept.beside)
           (c.in_err-submit_op.ensures.err.opening ∙ ap (λ (r : ReplicaOf g.row.S.Denot). r.board.opening) there ∙ kept.opening)
           kept.keeper kept.log;
@@ -59,8 +60,9 @@ loop-number-preserved g c =
     let here : slice_get (log_ops at.names log) (length at.board.log) ≡ Some op =
     op_here (op_of at.names) log (length at.board.log) call found ∙ ap Some looked_up in
     record {
-      kept = kept_by_one g.K.Keeper.Keeps log loop.self-inside.keeper at new kept.kept rest op put here;
+      kept = kept_by_one g.K.Keeper.Keeps log loop.self-inside.counts loop.self-inside.keeper at new kept.kept rest op put here;
       log = kept.log;
+      counts = kept.counts;
       keeper = kept.keeper;
       end = kept.end;
       count = omega (arith, ap {B = ℕ} length put.log, length-append at.board.log (op ∷ []), kept.count);
@@ -74,7 +76,13 @@ returns-clause-serves g c =
     let loop = c.loop-number in
     let kept = loop.invariant in
     record {
-      bank = kept_bank c.args.self.now (record { log = loop.self-inside.log.value.log; node = loop.self-inside.node.value; keeper = loop.self-inside.keeper })
+      bank = kept_bank c.args.self.now
+          (record {
+            log = loop.self-inside.log.value.log;
+            counts = loop.self-inside.counts;
+            node = loop.self-inside.node.value;
+            keeper = loop.self-inside.keeper;
+          })
           kept.beside kept.opening kept.keeper kept.log;
       none_out = kept.none_out;
       crew_lost = tt;

@@ -9,10 +9,12 @@ abbrev pub invariant-loop-number : goal.invariant-loop-number
 invariant-loop-number g l = record {
   kept : IsKeptPrimary g.K.Keeper.Keeps (record {
     log = l.self-inside.log.value.log;
+    counts = l.self-inside.counts;
     node = l.self-inside.node.value;
     keeper = l.self-inside.keeper;
   });
   log : l.self-inside.log.value.log ≡ l.fn.self.log;
+  counts : l.self-inside.counts ≡ l.fn.self.counts;
   keeper : l.self-inside.keeper ≡ l.fn.self.keeper;
   end : l.number-end ≡ length l.self-inside.log.value.log + 1;
   count : length l.self-inside.node.value.board.log + 1 ≡ l.number;

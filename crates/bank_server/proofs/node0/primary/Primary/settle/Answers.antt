@@ -15,7 +15,7 @@ invariant_of-self g c =
     let at : ReplicaOf g.row.S.Denot = c.self.inside.node.value in
     let new = c.execute_unfinished.new.replica in
     let there : c.deref_mut.result.now ≡ at = c.deref_mut.ensures.value in
-    kept_by_same g.K.Keeper.Keeps c.self.inside.log.value.log c.self.inside.keeper at new c.self.invariant
+    kept_by_same g.K.Keeper.Keeps c.self.inside.log.value.log c.self.inside.counts c.self.inside.keeper at new c.self.invariant
     (c.execute_unfinished.ensures.rest ∙ ap (λ (r : ReplicaOf g.row.S.Denot). rest_of r) there)
     (subst (λ (r : ReplicaOf g.row.S.Denot). PreservesLog r.board new.board) there c.execute_unfinished.ensures.log)
 
