@@ -14,12 +14,12 @@ use Rattle.sb_calls.specs.declared.ask.Key.{Key}
 use Rattle.sb_calls.specs.declared.call.Call.{Call}
 use Rattle.sb_log.specs.Records.{records}
 use Rattle.sb_log.specs.declared.log_fault.LogFault.{LogFault}
-use Rattle.sb_ask_log.specs.LogFile.{IsOpeningText}
+use Rattle.sb_ask_log.specs.LogFile.{IsOpeningText, with_line_end}
 use Rattle.sb_ask_log.specs.Recovery.{AreRead, ReadsAskLog}
 use Rattle.bank_server.specs.Input.{in_opening}
 use Rattle.bank_server.specs.declared.fault.InputFault.{InputFault}
 use Rattle.bank_server.specs.declared.fault.RunFault.TheVariants as run
-use Rattle.bank_service.specs.FoundBank.{IsFindFault, with_line_end}
+use Rattle.bank_service.specs.FoundBank.{IsFindFault}
 use Rattle.bank_service.specs.Opening.{with_nothing_behind, whole_opening_of}
 use Rattle.bank_service.specs.declared.serve_fault.ServeFault.{ServeFault}
 use Rattle.bank_service.specs.declared.serve_fault.ServeFault.TheVariants.{AnotherOpening, Log, PortTaken, ReadBack, Run, Store, StoreInUse}
@@ -116,11 +116,6 @@ opening_text (byte ∷ rest) text opening same is =
     }
 
 -- ---- tests
-
--- a test holds whose opposite doesn't
-pub not_false : (b : Bool) → not b ≡ false → b ≡ true
-not_false true is = refl
-not_false false is = cc
 
 -- a text of no bytes is empty, and one of some bytes isn't
 pub none_if_empty : (text : List ℕ) (count : ℕ) → count ≡ length text → (count == 0) ≡ true → text ≡ []

@@ -1,18 +1,14 @@
 -- The bank that is found in a log's file.
-use Rattle.std.specs.Prelude.{◌≡◌, ◌≢◌, ◌⊎◌, ◌==◌, ℕ, if◌then◌else◌, Err, List, [], ◌∷◌, ◌++◌, slice_index, ◌-◌, length}
+use Rattle.std.specs.Prelude.{◌≡◌, ◌≢◌, ◌⊎◌, ℕ, Err, List, [], ◌++◌, length}
 use Rattle.sb_calls.specs.declared.ask.Key.{Key}
 use Rattle.sb_calls.specs.declared.call.Call.{Call}
 use Rattle.sb_log.specs.declared.log_fault.LogFault.TheVariants as log
+use Rattle.sb_ask_log.specs.LogFile.{with_line_end}
 use Rattle.sb_ask_log.specs.Recovery.{HasPartOfOpening, IsDamagedAskLog, IsSameOrCut, ReadsAskLog}
 use Rattle.bank_server.specs.declared.fault.RunFault.TheVariants as run
 use Rattle.bank_service.specs.Opening.{whole_opening_of}
 use Rattle.bank_service.specs.declared.serve_fault.ServeFault.{ServeFault}
 use Rattle.bank_service.specs.declared.serve_fault.ServeFault.TheVariants.{AnotherOpening, Log, Run}
-
--- a text that isn't empty ends with the end of a line, which is added if it isn't there
-abbrev pub with_line_end : List ℕ → List ℕ
-with_line_end text =
-    if length text == 0 then [] else if slice_index text (length text - 1) == 10 then text else text ++ 10 ∷ []
 
 -- these bytes have no log: nothing, or a torn first record
 abbrev pub HasNoLog : List ℕ → Type 0

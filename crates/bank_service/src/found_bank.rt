@@ -3,10 +3,10 @@ ghost use Rattle.std.specs.Prelude.{◌≡◌, ◌≢◌, ◌⊎◌, ◌↔◌, 
 ghost use Rattle.sha2.specs.Hashers.{Holds256};
 ghost use Rattle.sb_log.specs.LogFiles.{HasFailed};
 ghost use Rattle.sb_log.specs.declared.log_fault.LogFault.TheVariants.{Device};
-ghost use Rattle.sb_ask_log.specs.LogFile.{log_bytes};
+ghost use Rattle.sb_ask_log.specs.LogFile.{log_bytes, with_line_end};
 ghost use Rattle.sb_ask_log.specs.Recovery.{HasPartOfOpening};
 ghost use Rattle.sb_ask_log.specs.Telling.{Tells};
-ghost use Rattle.bank_service.specs.FoundBank.{FindsBank, IsFindFault, with_line_end};
+ghost use Rattle.bank_service.specs.FoundBank.{FindsBank, IsFindFault};
 ghost use Rattle.bank_service.specs.Opening.{IsOpeningOf, whole_opening_of};
 ghost use Rattle.bank_service.specs.ServeFaults.{IsBankFault};
 ghost use Rattle.bank_service.specs.declared.serve_fault.ServeFault.TheVariants.{Log};
@@ -15,10 +15,10 @@ ghost use Rattle.bank_service.specs.inner.FindSteps.{IsCreateFault, IsMatchFault
 use crate::opening::whole_opening;
 use crate::serve_fault::ServeFault;
 use bank_server::RunFault;
-use sb_ask_log::{LogInFile, create_asks, recover_asks};
+use sb_ask_log::{LogInFile, create_asks, recover_asks, with_line_end};
 use sb_log::LogFile;
 use sb_rows::Opening;
-use std::alloc::{AllocError, Global};
+use std::alloc::Global;
 
 // An opening is never that long: it has 65,536 lines at most.
 const TEXT: usize = 1 << 31;
@@ -115,21 +115,8 @@ fn matching_opening(alloc: Global, found: &LogInFile, input: &[u8]) -> Result<Op
     ensures same { IfOk result (λ opening. (input.now ≡ []) ⊎ (with_line_end input.now ≡ found.now.text.items)) }
     ensures fault { IfErr result (IsMatchFault found.now.text.items input.now) }
 {
-    if !input.is_empty() && with_line_end(alloc, input)?.as_slice() != found.text.as_slice() {
+    if !input.is_empty() && !found.has_opening(alloc, input)? {
         return Err(ServeFault::AnotherOpening);
     }
     Ok(whole_opening(alloc, &found.text)?)
-}
-
-// A text with the end of its last line.
-fn with_line_end(alloc: Global, text: &[u8]) -> Result<Vec<u8>, AllocError>
-    ensures { IfOk result (λ whole. whole.items ≡ with_line_end text.now) }
-{
-    let mut whole = Vec::from_slice(alloc, text)?;
-    if let Some(last) = text.last() {
-        if *last != b'\n' {
-            whole.push(b'\n')?;
-        }
-    }
-    Ok(whole)
 }

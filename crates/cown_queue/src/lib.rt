@@ -2,8 +2,6 @@
 #![tactic(auto)]
 
 mod queues;
-#[cfg(test)]
-mod tests;
 mod tickets;
 
 pub use queues::Queues;

@@ -9,8 +9,6 @@ mod lanes;
 mod laws;
 mod ranges;
 mod summing;
-#[cfg(test)]
-mod tests;
 
 pub use auditing::{audit, bank_total};
 pub use books::Audit;

@@ -287,3 +287,33 @@ fn bodies_that_no_log_has(rt: HostRuntime) {
     let key_again = file_with(&rt, alloc, &[&opening, FIRST, SECOND, FIRST]);
     is_damaged(&rt, alloc, key_again, 227, 58);
 }
+
+// Inputs, and whether each is the log's opening, but for the end of its last line.
+const INPUTS: &[(&[u8], bool)] = &[
+    (TEXT, true),
+    (
+        b"alice 100.00 50.00\nbob 0.00 20.00\ncarol 10.00 0.00\nbegin",
+        true,
+    ),
+    (
+        b"alice 100.00 50.00\nbob 0.00 20.00\ncarol 10.00 0.01\nbegin\n",
+        false,
+    ),
+    (
+        b"alice 100.00 50.00\nbob 0.00 20.00\ncarol 10.00 0.00\nbegin\n\n",
+        false,
+    ),
+    (b"alice 100.00 50.00\nbegin\n", false),
+    (b"", false),
+];
+
+#[test]
+fn an_opening_is_told_from_another(rt: HostRuntime) {
+    let alloc = rt.alloc();
+    let mut file = file_of(&rt, alloc, &whole(&rt, alloc));
+    let found = recover_asks(alloc, &mut file).expect(&rt, "a log");
+    for (input, same) in INPUTS {
+        let has = found.has_opening(alloc, input).expect(&rt, "memory");
+        assert!(rt; has == *same, "an opening");
+    }
+}

@@ -28,6 +28,8 @@ mod pair;
 #[cfg(test)]
 mod picks;
 #[cfg(test)]
+mod queues;
+#[cfg(test)]
 mod readiness;
 #[cfg(test)]
 mod sleeps;

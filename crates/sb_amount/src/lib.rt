@@ -7,8 +7,6 @@ mod fault;
 mod laws;
 mod printing;
 mod reading;
-#[cfg(test)]
-mod tests;
 
 pub use canonical::is_canonical;
 pub use cents::{Cents, LIMIT};

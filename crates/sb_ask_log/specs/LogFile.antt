@@ -1,5 +1,5 @@
 -- The file of a log: its opening text, and then its asks in batches.
-use Rattle.std.specs.Prelude.{◌≡◌, ◌≢◌, ℕ, Ok, List, [], ◌∷◌, ◌++◌, codes, length, map}
+use Rattle.std.specs.Prelude.{◌≡◌, ◌≢◌, ◌==◌, ◌-◌, ℕ, if◌then◌else◌, Ok, List, [], ◌∷◌, ◌++◌, codes, length, map, slice_index}
 use Rattle.std.specs.List.{All, flat_map}
 use Rattle.sb_rows.specs.Opening.{OpeningText, opening_of}
 use Rattle.sb_calls.specs.declared.ask.Key.{Key}
@@ -18,6 +18,11 @@ pub record IsOpeningText (text : List ℕ) : Type 0 where
   pub read : opening_of text ≡ Ok opening
   pub whole : opening.consumed ≡ length text
   pub ended : (front : List ℕ) × (text ≡ front ++ 10 ∷ [])
+
+-- a text that isn't empty ends with the end of a line, which is added if it isn't there
+abbrev pub with_line_end : List ℕ → List ℕ
+with_line_end text =
+    if length text == 0 then [] else if slice_index text (length text - 1) == 10 then text else text ++ 10 ∷ []
 
 -- these batches are a log: none is empty, and no key stands twice
 pub record AreBatchesOf (batches : List (List (Key × Call))) (log : List (Key × Call)) : Type 0 where

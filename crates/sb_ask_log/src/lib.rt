@@ -16,4 +16,4 @@ pub use keeper::{Keeper, NoKeeper};
 pub use laws::recovers_what_it_told;
 pub use log_in_file::{LogInFile, read_asks, recover_asks};
 pub use memory_log::{ASK_RECORD, MemoryLog};
-pub use opening_text::is_opening_text;
+pub use opening_text::{is_opening_text, with_line_end};

@@ -1,16 +1,17 @@
 //! The log that a file has.
-ghost use Rattle.std.specs.Prelude.{◌≡◌, ◌≢◌, ◌+◌, ◌++◌, ◌↔◌, ℕ, List, [], length, false, IfErr, IfOk, IsErrOf, OnErr};
+ghost use Rattle.std.specs.Prelude.{◌≡◌, ◌≢◌, ◌+◌, ◌++◌, ◌↔◌, ℕ, List, [], length, false, IfErr, IfOk, IsErrOf, MatchBool, OnErr};
 ghost use Rattle.sha2.specs.Hashers.{Holds256};
 ghost use Rattle.sb_log.specs.LogFiles.{HasFailed};
 ghost use Rattle.sb_log.specs.declared.log_fault.LogFault.TheVariants.{Device};
-ghost use Rattle.sb_ask_log.specs.LogFile.{log_bytes};
+ghost use Rattle.sb_ask_log.specs.LogFile.{log_bytes, with_line_end};
 ghost use Rattle.sb_ask_log.specs.Recovery.{IsReadFault, IsSameOrCut, IsUnchangedIfDamaged, ReadsAskLog};
 ghost use Rattle.sb_ask_log.specs.Telling.{Tells};
 
 use crate::ask_replay::AskReplay;
+use crate::opening_text;
 use sb_log::{LogEnd, LogFault, LogFile, read_log, recover};
 use sb_sequencer::Sequencer;
-use std::alloc::Global;
+use std::alloc::{AllocError, Global};
 
 /// The log that a file has.
 #[derive(Drop)]
@@ -21,6 +22,18 @@ pub struct LogInFile {
     pub log: Box<Sequencer>,
     /// Where the records end.
     pub end: LogEnd,
+}
+
+impl LogInFile {
+    /// Whether an input is the opening of this log, but for the end of its last line. Fails if memory
+    /// is refused.
+    pub fn has_opening(&self, alloc: Global, input: &[u8]) -> Result<bool, AllocError>
+        ensures { IfOk result (λ has. MatchBool has
+            (with_line_end input.now ≡ self.now.text.items) (with_line_end input.now ≢ self.now.text.items)) }
+    {
+        let text = opening_text::with_line_end(alloc, input)?;
+        Ok(text.as_slice() == self.text.as_slice())
+    }
 }
 
 /// Reads the log of a file. The file stays as it is.

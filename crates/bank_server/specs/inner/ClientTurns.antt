@@ -1,5 +1,5 @@
 -- Clients within a turn, when outcomes may be due.
-use Rattle.std.specs.Prelude.{◌≡◌, ◌⊎◌, ℕ, Ok, Err, List, ◌∷◌, [], ◌++◌, IfSome, slice_get}
+use Rattle.std.specs.Prelude.{◌≡◌, ◌⊎◌, ℕ, Option, Ok, Err, List, ◌∷◌, [], ◌++◌, IfSome, slice_get}
 use Rattle.std.specs.List.{Contains}
 use Rattle.sb_rows.specs.Rows.{Rows}
 use Rattle.sb_calls.specs.declared.ask.Key.{Key}
@@ -9,8 +9,21 @@ use Rattle.sb_frames.specs.declared.frame.Frame as wire
 use Rattle.sb_sequencer.specs.Numbering.{first_asks}
 use Rattle.bank_server.specs.Clients.{AreServed, ClientOf, End, IsHeard, PastOf, Piece}
 use Rattle.bank_server.specs.Session.{asks_in}
+use Rattle.bank_server.specs.declared.node0.ask_counts.AskCounts.{AskCounts}
+use Rattle.bank_server.specs.declared.session.inbox.Inbox.{Inbox}
 use Rattle.bank_server.specs.declared.session.session_fault.SessionFault.TheVariants.{Frame}
 use Rattle.bank_server.specs.inner.ClientSteps.{ClientState, ReachesClient}
+
+-- a client with this inbox
+abbrev pub client_of : Inbox → List ℕ → AskCounts → Option End → ClientOf
+client_of inbox outcomes counts ending = record {
+  stream = inbox.stream;
+  pending = inbox.pending.items;
+  due = inbox.due;
+  outcomes = outcomes;
+  counts = counts;
+  ending = ending;
+}
 
 -- how a client ends whose last bytes are these, that aren't a whole frame
 abbrev pub ending_of : List ℕ → End

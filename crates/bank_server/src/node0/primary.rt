@@ -39,8 +39,8 @@ use std::alloc::{AllocError, Global};
 use std::marker::Model;
 use std::sync::Wait;
 
-/// The log, node 0, whose own log is a beginning of it, and the log's keeper, which keeps a
-/// beginning of it too.
+/// The log, how many asks it answered, node 0, whose own log is a beginning of it, and the log's
+/// keeper, which keeps a beginning of it too.
 #[derive(Drop)]
 pub struct Primary<S: CheckpointStore, K: Keeper = NoKeeper> {
     alloc: Global,

@@ -33,17 +33,11 @@ pub(crate) struct Client {
 
 impl Model for Client {
     ghost use Rattle.bank_server.specs.Clients.{ClientOf};
+    ghost use Rattle.bank_server.specs.inner.ClientTurns.{client_of};
 
     ghost Value = { ClientOf };
 
-    ghost view = { λ c. record {
-      stream = c.inbox.stream;
-      pending = c.inbox.pending.items;
-      due = c.inbox.due;
-      outcomes = c.outcomes.items;
-      counts = c.counts;
-      ending = c.ending;
-    } };
+    ghost view = { λ c. client_of c.inbox c.outcomes.items c.counts c.ending };
 }
 
 impl Client {

@@ -1,9 +1,9 @@
 -- The faults of the steps by which a bank is found in a file.
 use Rattle.std.specs.Prelude.{◌≡◌, ◌≢◌, ℕ, Err, List, []}
 use Rattle.sb_log.specs.declared.log_fault.LogFault.TheVariants as log
+use Rattle.sb_ask_log.specs.LogFile.{with_line_end}
 use Rattle.sb_ask_log.specs.Recovery.{HasPartOfOpening}
 use Rattle.bank_server.specs.declared.fault.RunFault.TheVariants as run
-use Rattle.bank_service.specs.FoundBank.{with_line_end}
 use Rattle.bank_service.specs.Opening.{whole_opening_of}
 use Rattle.bank_service.specs.declared.serve_fault.ServeFault.{ServeFault}
 use Rattle.bank_service.specs.declared.serve_fault.ServeFault.TheVariants.{AnotherOpening, Log, Run}

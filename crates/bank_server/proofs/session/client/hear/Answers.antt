@@ -3,7 +3,7 @@ use Rattle.std.specs.Prelude.{OnOk, is_some}
 use Rattle.bank_server.specs.Clients.{ClientOf, Piece, piece_of}
 use Rattle.bank_server.specs.Primary.{opening_rows_of}
 use Rattle.bank_server.specs.declared.session.session_fault.SessionFault.TheVariants.{Device}
-use Rattle.bank_server.specs.inner.ClientTurns.{HearsClient}
+use Rattle.bank_server.specs.inner.ClientTurns.{HearsClient, client_of}
 use Rattle.bank_server.proofs.clients.ClientTurns.{hears_deaf, hears_ending, hears_failure}
 use Rattle.bank_server.proofs.sessions.Keeping.{numbers_nothing}
 use Rattle.bank_server.proofs.session.client.hear.Goals as goal
@@ -21,14 +21,7 @@ returns-in-None-clause-heard g c =
     let opening = opening_rows_of c.args.primary.now in
     let log = c.args.primary.now.log in
     let inside = c.client.inside in
-    let old : ClientOf = record {
-      stream = inside.inbox.stream;
-      pending = inside.inbox.pending.items;
-      due = inside.inbox.due;
-      outcomes = inside.outcomes.items;
-      counts = inside.counts;
-      ending = inside.ending;
-    } in
+    let old = client_of inside.inbox inside.outcomes.items inside.counts inside.ending in
     let new : ClientOf = record old { ending = Some (Err Device) } in
     subst (λ (x : ClientOf). HearsClient opening log x (piece_of c.args.chunk.now c.args.read) log new) c.client.view_is
     (subst (λ (p : Piece). HearsClient opening log old p log new) (sym (ap (piece_of c.args.chunk.now) c.in-None.is))

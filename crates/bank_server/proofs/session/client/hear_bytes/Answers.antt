@@ -2,7 +2,7 @@ use Rattle.std.proofs.Common.{◌≡◌, ◌++◌, None, Some, Err, refl, sym, a
 use Rattle.bank_server.specs.Clients.{ClientOf}
 use Rattle.bank_server.specs.Primary.{opening_rows_of}
 use Rattle.bank_server.specs.inner.ClientSteps.{StopsClient}
-use Rattle.bank_server.specs.inner.ClientTurns.{HearsClient, state_of_client}
+use Rattle.bank_server.specs.inner.ClientTurns.{HearsClient, client_of, state_of_client}
 use Rattle.bank_server.specs.declared.session.TheConstants.{ASKS_BEFORE_FLUSH}
 use Rattle.bank_server.specs.declared.session.session_fault.SessionFault.{SessionFault}
 use Rattle.bank_server.proofs.clients.ClientTurns.{has_bytes, hears_fault, hears_well, none_on}
@@ -12,22 +12,8 @@ pub returns-in-Ok-clause-heard : goal.returns-in-Ok-clause-heard
 returns-in-Ok-clause-heard g c =
     let inside = c.client.inside in
     let now = c.take_bytes-taken.new.inbox in
-    let old : ClientOf = record {
-      stream = inside.inbox.stream;
-      pending = inside.inbox.pending.items;
-      due = inside.inbox.due;
-      outcomes = inside.outcomes.items;
-      counts = inside.counts;
-      ending = inside.ending;
-    } in
-    let new : ClientOf = record {
-      stream = now.stream;
-      pending = now.pending.items;
-      due = now.due;
-      outcomes = inside.outcomes.items;
-      counts = c.add.new.self;
-      ending = inside.ending;
-    } in
+    let old = client_of inside.inbox inside.outcomes.items inside.counts inside.ending in
+    let new = client_of now inside.outcomes.items c.add.new.self inside.ending in
     let same : old ≡ c.args.client.now = c.client.view_is in
     let on : old.ending ≡ None = ap (λ (x : ClientOf). x.ending) same ∙ c.requires.on in
     subst (λ (x : ClientOf). HearsClient (opening_rows_of c.args.primary.now) c.args.primary.now.log x (Some c.args.bytes.now)
@@ -43,22 +29,8 @@ returns-in_ok-own_fault-in-Err-clause-heard g c =
     let now = c.take_bytes-taken.new.inbox in
     let own = c.in_ok-own_fault-in-Err.field-0 in
     let why = c.in_ok-own_fault-in-Err.ensures.own in
-    let old : ClientOf = record {
-      stream = inside.inbox.stream;
-      pending = inside.inbox.pending.items;
-      due = inside.inbox.due;
-      outcomes = inside.outcomes.items;
-      counts = inside.counts;
-      ending = inside.ending;
-    } in
-    let new : ClientOf = record {
-      stream = now.stream;
-      pending = now.pending.items;
-      due = now.due;
-      outcomes = inside.outcomes.items;
-      counts = c.add.new.self;
-      ending = Some (Err own);
-    } in
+    let old = client_of inside.inbox inside.outcomes.items inside.counts inside.ending in
+    let new = client_of now inside.outcomes.items c.add.new.self (Some (Err own)) in
     let same : old ≡ c.args.client.now = c.client.view_is in
     let on : old.ending ≡ None = ap (λ (x : ClientOf). x.ending) same ∙ c.requires.on in
     subst (λ (x : ClientOf). HearsClient opening c.args.primary.now.log x (Some c.args.bytes.now) c.take_bytes-taken.new.primary.log new) same

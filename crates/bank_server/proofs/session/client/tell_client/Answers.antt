@@ -4,7 +4,7 @@ use Rattle.bank_server.specs.Clients.{ClientOf}
 use Rattle.bank_server.specs.Primary.{opening_rows_of}
 use Rattle.bank_server.specs.declared.session.TheConstants.{UNREAD_BYTES}
 use Rattle.bank_server.specs.declared.session.session_fault.SessionFault.TheVariants.{Device}
-use Rattle.bank_server.specs.inner.ClientTurns.{TellsClient}
+use Rattle.bank_server.specs.inner.ClientTurns.{TellsClient, client_of}
 use Rattle.bank_server.proofs.clients.ClientTurns.{tells_client}
 use Rattle.bank_server.proofs.session.client.tell_client.Goals as goal
 
@@ -15,22 +15,8 @@ returns-clause-told g c =
     let now = c.push_due.new.self in
     let out = c.push_due.new.out.items in
     let told = c.in_ok-push_due.ensures in
-    let old : ClientOf = record {
-      stream = inside.inbox.stream;
-      pending = inside.inbox.pending.items;
-      due = inside.inbox.due;
-      outcomes = inside.outcomes.items;
-      counts = inside.counts;
-      ending = inside.ending;
-    } in
-    let new : ClientOf = record {
-      stream = now.stream;
-      pending = now.pending.items;
-      due = now.due;
-      outcomes = out;
-      counts = inside.counts;
-      ending = c.ending_by-client-inside.result;
-    } in
+    let old = client_of inside.inbox inside.outcomes.items inside.counts inside.ending in
+    let new = client_of now out inside.counts c.ending_by-client-inside.result in
     let len : c.len.result ≡ length out = search rules in
     subst (λ (x : ClientOf). TellsClient (opening_rows_of primary) primary.log x new) c.client.view_is
     (tells_client (opening_rows_of primary) primary.log old new told.behind.0 told.stream told.tells told.behind.1

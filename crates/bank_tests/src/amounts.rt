@@ -1,13 +1,10 @@
-//! What no clause says: amounts worked by hand, texts of faults, and amounts as a plain program
-//! prints them.
-use super::*;
+//! Amounts worked by hand and as a plain program prints them, and the words of their faults.
+use crate::fixtures::expect;
+use sb_amount::{
+    Cents, LIMIT, MoneyFault, is_canonical, print, print_total, totals_are_short, write_total,
+};
 use std::alloc::Global;
 use std::process::Abort;
-
-// Checks one case.
-fn expect(rt: &impl Abort, holds: bool, case: &str) {
-    assert!(rt; holds, "{case}");
-}
 
 // Checks the words of one case.
 fn expect_words(rt: &impl Abort, found: &str, words: &str) {

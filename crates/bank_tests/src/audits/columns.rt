@@ -1,5 +1,10 @@
 //! Columns at the limit, and columns of each length around a lane count.
-use super::*;
+use super::{column, difference_of, expect_at, sum_of};
+use crate::fixtures::expect;
+use lane_audit::{count_below, first_outside};
+use sb_amount::LIMIT;
+use std::alloc::Global;
+use std::process::Abort;
 
 // The length of a column, and its sum if each value is at the limit.
 const SUMS: &[(usize, i64)] = &[

@@ -1,7 +1,7 @@
 use Rattle.std.proofs.Common.{◌≡◌, ℕ, ◌<◌, Some, List, [], ◌∷◌, ◌++◌, length, take, sym, ap, ◌∙◌, arith}
 use Rattle.cown_queue.specs.Queues.{front_of, IsInFront}
 use Rattle.cown_queue.proofs.ListChanges.{take-cown}
-use Rattle.cown_queue.proofs.tests.is_in_front.Goals as goal
+use Rattle.running_tests.proofs.queues.is_in_front.Goals as goal
 
 -- one more cown at which the number is in front
 IsInFront-push : (number : ℕ) (cowns : List ℕ) (cown : ℕ) (lists : List (List ℕ)) → IsInFront number cowns lists

@@ -1,21 +1,15 @@
 //! Audits worked by hand.
-use super::*;
-use sb_amount::Cents;
+use crate::fixtures::{cents, expect, name};
+use lane_audit::{Audit, audit, bank_total};
 use sb_calls::{Call, Reply};
-use sb_rows::{Columns, Name, read_opening};
+use sb_rows::{Columns, read_opening};
+use std::alloc::Global;
+use std::process::Abort;
 
 const OPENING: &str = "alice 100.00 50.00\nbob 0.00 20.00\ncarol 10.00 0.00\nbegin\n";
 
 // The same bank after the calls of the test.
 const CLOSING: &str = "alice 90.00 60.00\nbob 0.00 -1.01\ncarol 0.00 0.00\nbegin\n";
-
-fn name(rt: &impl Abort, text: &str) -> Name {
-    Name::new(text.as_bytes()).expect(rt, "a name")
-}
-
-fn amount(rt: &impl Abort, cents: i64) -> Cents {
-    Cents::new(cents).expect(rt, "an amount within the limit")
-}
 
 // The balances of the bank of this text.
 fn columns_of(rt: &impl Abort, alloc: Global, text: &str) -> Box<Columns> {
@@ -27,12 +21,12 @@ fn columns_of(rt: &impl Abort, alloc: Global, text: &str) -> Box<Columns> {
 fn audit_of(rt: &impl Abort, opening: &Columns, now: &Columns) -> (i64, Audit) {
     let (alice, bob, carol) = (name(rt, "alice"), name(rt, "bob"), name(rt, "carol"));
     let calls = [
-        Call::DepositChecking(bob, amount(rt, 500)),
-        Call::WriteCheck(bob, amount(rt, 2501)),
-        Call::TransactSavings(alice, amount(rt, -1000)),
+        Call::DepositChecking(bob, cents(rt, 500)),
+        Call::WriteCheck(bob, cents(rt, 2501)),
+        Call::TransactSavings(alice, cents(rt, -1000)),
         Call::Amalgamate(carol, alice),
         Call::Balance(alice),
-        Call::DepositChecking(name(rt, "zed"), amount(rt, 100)),
+        Call::DepositChecking(name(rt, "zed"), cents(rt, 100)),
     ];
     let replies = [
         Reply::Done,

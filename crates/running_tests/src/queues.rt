@@ -1,9 +1,10 @@
+//! The numbers that wait at each cown, and the fronts as plain lists have them.
 ghost use Rattle.std.specs.Prelude.{◌≤◌, length, IsTrue};
 ghost use Rattle.sb_calls.specs.Cowns.{AreBelow, IsRising};
 ghost use Rattle.cown_queue.specs.Queues.{IsInFront};
 
-use super::*;
 use arrayvec::ArrayVec;
+use cown_queue::Queues;
 use sb_calls::Cown;
 use std::alloc::Global;
 use std::process::Abort;

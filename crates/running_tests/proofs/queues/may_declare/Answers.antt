@@ -1,7 +1,7 @@
 use Rattle.std.proofs.Common.{ℕ, ◌+◌, ◌<◌, ◌≤◌, List, [], ◌∷◌, ◌++◌, length, take, arith}
 use Rattle.sb_calls.specs.Cowns.{AreBelow, IsRising}
 use Rattle.cown_queue.proofs.ListChanges.{take-cown}
-use Rattle.cown_queue.proofs.tests.may_declare.Goals as goal
+use Rattle.running_tests.proofs.queues.may_declare.Goals as goal
 
 -- one more cown below a bound
 AreBelow-push : (bound : ℕ) (cowns : List ℕ) (cown : ℕ) → AreBelow bound cowns → cown < bound → AreBelow bound (cowns ++ cown ∷ [])

@@ -1,6 +1,6 @@
 use Rattle.std.proofs.Common.{take}
 use Rattle.sb_calls.specs.Cowns.{AreBelow, IsRising}
-use Rattle.cown_queue.proofs.tests.may_declare.Given as goal
+use Rattle.running_tests.proofs.queues.may_declare.Given as goal
 
 abbrev pub invariant-loop-cown : goal.invariant-loop-cown
 invariant-loop-cown l = record {

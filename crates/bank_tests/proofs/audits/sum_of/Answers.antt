@@ -1,7 +1,7 @@
 use Rattle.std.proofs.Common.{pos, arith}
 use Rattle.std.proofs.lemmas.List.Elements.{All-from_get_or}
 use Rattle.sb_amount.specs.Limit.{IsWithinLimit}
-use Rattle.lane_audit.proofs.tests.sum_of.Goals as goal
+use Rattle.bank_tests.proofs.audits.sum_of.Goals as goal
 
 pub sum-requires : goal.sum-requires
 sum-requires g c = record {

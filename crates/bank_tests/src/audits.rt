@@ -1,18 +1,12 @@
-//! Worked inputs, which check the definitions: columns at the limit, columns of each length around
-//! a lane count, and an audit worked by hand.
-use super::*;
+//! Columns of integers, and audits.
+use lane_audit::{first_difference, sum};
 use sb_amount::LIMIT;
 use sb_rows::CUSTOMERS;
 use std::alloc::Global;
 use std::process::Abort;
 
-mod audits;
 mod columns;
-
-// Checks one case.
-fn expect(rt: &impl Abort, holds: bool, case: &str) {
-    assert!(rt; holds, "{case}");
-}
+mod worked;
 
 // Checks one of several columns, named by its length.
 fn expect_at(rt: &impl Abort, holds: bool, length: usize) {
