@@ -1,5 +1,5 @@
-//! Tests of a bank's customers and of their calls: inputs worked by hand, inputs at limits, and
-//! what no clause says.
+//! Tests of money, of a bank's customers, of their calls, and of audits: inputs worked by hand,
+//! inputs at limits, and what no clause says.
 #![tactic(auto)]
 
 #[cfg(test)]

@@ -1,4 +1,5 @@
-//! Tests of what runs a log: the board, the bench with its jobs, and the crews that execute them.
+//! Tests of what runs a log: the queues of cowns, the board, the bench with its jobs, and the crews
+//! that execute them.
 #![tactic(auto)]
 
 #[cfg(test)]
