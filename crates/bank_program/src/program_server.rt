@@ -1,7 +1,7 @@
 //! The program that serves.
-ghost use Rattle.std.specs.Prelude.{◌≡◌, ◌≤◌, None, false, true, is_some, IfErr, IfOk};
+ghost use Rattle.std.specs.Prelude.{◌≡◌, ◌⊎◌, ◌≤◌, ◌<◌, None, false, true, is_some, IfErr, IfOk};
 ghost use Rattle.bank_server.specs.Execution.{HasNoEntries};
-ghost use Rattle.bank_service.specs.ServeFaults.{IsPortFault, IsProgramFault};
+ghost use Rattle.bank_service.specs.ServeFaults.{IsBankFault, IsPortFault, IsProgramFault, IsServingFault};
 ghost use Rattle.bank_program.specs.inner.StepFaults.{IsOpenFault, IsOpeningFault, IsStoreFault};
 
 use crate::device::Device;
@@ -20,9 +20,9 @@ use bank_service::{
 };
 use cown_bench::WORKERS;
 use program_words::Plan;
-use sb_ask_log::AskLog;
+use sb_ask_log::{AskLog, Keeper};
 use sb_checkpoint::{CheckpointStore, FileStore, FileWithSpare, FolderFile};
-use sb_log::{Reason, SystemFile};
+use sb_log::{LogFile, Reason, SystemFile};
 use sb_rows::Opening;
 use sb_sequencer::REPLICAS;
 use sb_text::read_all;
@@ -132,10 +132,28 @@ fn open_on_log<'t, 'd, 'r>(
     ensures fault { IfErr result (IsOpenFault saves) }
 {
     let alloc = rt.alloc();
-    let mut file = SystemFile::open(rt, log, LOG, reason)?;
+    let file = SystemFile::open(rt, log, LOG, reason)?;
     let input = read_all(alloc, &mut input(rt, trouble))?;
     let store = store_of(rt, folder, saves, lock, trouble)?;
-    let found = find_bank(alloc, &mut file, &input)?;
+    open_found(rt, file, &input, store, folder, saves)
+}
+
+// Opens the bank that is found in a log's file, and tells what was cut off, and that an earlier checkpoint
+// in this folder will be replaced.
+fn open_found<F: LogFile, S: CheckpointStore>(
+    rt: &HostRuntime,
+    file: F,
+    input: &[u8],
+    store: S,
+    folder: &str,
+    saves: bool,
+) -> Result<Box<Primary<S, AskLog<F>>>, ServeFault>
+    ensures no_entries { IfOk result (λ opened. HasNoEntries opened.value.node.board) }
+    ensures fault { IfErr result IsBankFault }
+{
+    let alloc = rt.alloc();
+    let mut file = file;
+    let found = find_bank(alloc, &mut file, input)?;
     if found.cut > 0 {
         let report = CutReport { bytes: found.cut };
         let _ = eprintln!(rt; "{report}");
@@ -148,20 +166,23 @@ fn open_on_log<'t, 'd, 'r>(
 }
 
 // Serves a bank that was opened, at a port.
-fn serve_opened<H>(
+fn serve_opened<H, S, K>(
     rt: &HostRuntime,
     threads: &H,
     port: u16,
-    opened: Box<SystemBank<'_, '_, '_>>,
+    opened: Box<Primary<S, K>>,
     plan: Plan,
     trouble: &Trouble<'_>,
 ) -> Result<(), ServeFault>
 where
     H: Threads + Wait + Clock + Sync + Net,
+    S: CheckpointStore,
+    K: Keeper,
     requires nodes { plan.nodes ≤ REPLICAS }
     requires workers { plan.workers ≤ WORKERS }
     requires no_entries { HasNoEntries opened.value.node.board }
-    ensures fault { IfErr result (IsProgramFault port plan true) }
+    ensures fault { IfErr result (λ fault. IsPortFault port fault
+        ⊎ IsServingFault plan.nodes (0 < plan.workers) plan.saves K.fails fault) }
 {
     if let Some(clients) = plan.clients {
         return serve_clients_at(rt, threads, port, opened, clients, plan, trouble);
