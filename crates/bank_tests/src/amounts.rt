@@ -1,5 +1,5 @@
 //! Amounts worked by hand and as a plain program prints them, and the words of their faults.
-use crate::fixtures::expect;
+use crate::fixtures::{expect, expect_shown};
 use sb_amount::{
     Cents, LIMIT, MoneyFault, is_canonical, print, print_total, totals_are_short, write_total,
 };
@@ -176,12 +176,6 @@ fn sums_up_to_the_limit(rt: HostRuntime) {
     expect(&rt, sum_of(&rt, LIMIT, -LIMIT) == Some(0), "both limits");
 }
 
-// Checks a fault's text.
-fn expect_shown(rt: &impl Abort, alloc: Global, fault: MoneyFault, words: &str) {
-    let shown = fault.to_string(alloc).expect(rt, "memory for a text");
-    expect_words(rt, shown.as_str(), words);
-}
-
 const SHOWN: &[(MoneyFault, &str)] = &[
     (MoneyFault::Empty, "empty"),
     (MoneyFault::NotDigit, "not a digit"),
@@ -193,7 +187,7 @@ const SHOWN: &[(MoneyFault, &str)] = &[
 #[test]
 fn words_of_the_faults(rt: HostRuntime) {
     for (fault, words) in SHOWN {
-        expect_shown(&rt, rt.alloc(), *fault, words);
+        expect_shown(&rt, rt.alloc(), fault, words);
     }
 }
 

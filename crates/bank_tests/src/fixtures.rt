@@ -16,6 +16,12 @@ pub(crate) fn expect_bytes(rt: &impl Abort, found: &[u8], wanted: &[u8], case: &
     assert!(rt; found == wanted, "{case}");
 }
 
+/// Checks the text of a fault.
+pub(crate) fn expect_shown(rt: &impl Abort, alloc: Global, fault: &impl ToString, words: &str) {
+    let shown = fault.to_string(alloc).expect(rt, "memory for a text");
+    expect_bytes(rt, shown.as_bytes(), words.as_bytes(), words);
+}
+
 /// Checks the amounts of a case.
 pub(crate) fn expect_amounts(rt: &impl Abort, found: &[i64], wanted: &[i64], case: &str) {
     assert!(rt; found == wanted, "{case}");

@@ -1,8 +1,7 @@
 //! Lines that spell calls, and lines that don't.
-use crate::fixtures::{cents, expect, expect_bytes, name};
+use crate::fixtures::{cents, expect, expect_shown, name};
 use sb_calls::{Call, CallFault, read_call, read_call_words};
 use sb_rows::Words;
-use std::alloc::Global;
 use std::process::Abort;
 
 // Checks that a line spells this call.
@@ -105,12 +104,6 @@ fn lines_at_fault(rt: HostRuntime) {
     }
 }
 
-// Checks a fault's text.
-fn expect_shown(rt: &impl Abort, alloc: Global, fault: CallFault, words: &str) {
-    let shown = fault.to_string(alloc).expect(rt, "memory for a text");
-    expect_bytes(rt, shown.as_bytes(), words.as_bytes(), words);
-}
-
 const SHOWN: &[(CallFault, &str)] = &[
     (CallFault::UnknownVerb, "unknown verb"),
     (CallFault::WrongWords, "wrong words"),
@@ -122,6 +115,6 @@ const SHOWN: &[(CallFault, &str)] = &[
 #[test]
 fn words_of_the_faults(rt: HostRuntime) {
     for (fault, words) in SHOWN {
-        expect_shown(&rt, rt.alloc(), *fault, words);
+        expect_shown(&rt, rt.alloc(), fault, words);
     }
 }

@@ -1,5 +1,5 @@
 //! Openings that are refused.
-use crate::fixtures::{expect, expect_bytes, many_lines};
+use crate::fixtures::{expect, expect_shown, many_lines};
 use sb_rows::{LineFault, OpeningFault, read_opening};
 use std::alloc::Global;
 use std::process::Abort;
@@ -84,12 +84,6 @@ fn one_customer_more_than_a_bank_has(rt: HostRuntime) {
     expect_fault_of_last(&rt, rt.alloc(), "d 1.00 2.00\nbegin\n", LineFault::TooMany);
 }
 
-// Checks a fault's text.
-fn expect_shown(rt: &impl Abort, alloc: Global, fault: OpeningFault, words: &str) {
-    let shown = fault.to_string(alloc).expect(rt, "memory for a text");
-    expect_bytes(rt, shown.as_bytes(), words.as_bytes(), words);
-}
-
 const SHOWN: &[(LineFault, &str)] = &[
     (LineFault::BadLine, "line 7: bad line"),
     (LineFault::BadName, "line 7: bad name"),
@@ -104,7 +98,7 @@ const SHOWN: &[(LineFault, &str)] = &[
 fn words_of_the_faults(rt: HostRuntime) {
     for (fault, words) in SHOWN {
         let (line, fault) = (7, *fault);
-        expect_shown(&rt, rt.alloc(), OpeningFault::Line { line, fault }, words);
+        expect_shown(&rt, rt.alloc(), &OpeningFault::Line { line, fault }, words);
     }
-    expect_shown(&rt, rt.alloc(), OpeningFault::OutOfMemory, "out of memory");
+    expect_shown(&rt, rt.alloc(), &OpeningFault::OutOfMemory, "out of memory");
 }
