@@ -1,7 +1,8 @@
 -- Outcomes that are told, one after another.
-use Rattle.std.proofs.Common.{◌≡◌, ℕ, ◌+◌, ◌<◌, List, [], ◌∷◌, ◌++◌, length, drop, refl, sym, ap, subst, ◌∙◌, arith, append_assoc, append-nil, length-append, length-drop}
+use Rattle.std.proofs.Common.{◌≡◌, ℕ, ◌+◌, ◌<◌, List, [], ◌∷◌, ◌++◌, length, drop, refl, sym, ap, subst, ◌∙◌, arith, append_assoc, append-nil, length-append, length-drop, Option, Result, Ok, Err}
 use Rattle.std.specs.Prelude.{◌≢◌}
 use Rattle.std.specs.List.{flat_map}
+use Rattle.std.proofs.KnownBytes.{Consumes-nil}
 use Rattle.std.proofs.lemmas.Grind.{flat_map-append}
 use Rattle.std.proofs.lemmas.List.{drop-drop}
 use Rattle.sb_rows.specs.Text.{unlines}
@@ -11,8 +12,10 @@ use Rattle.sb_frames.specs.declared.frame.AskOutcome.{AskOutcome}
 use Rattle.sb_frames.specs.declared.frame.Frame.{Frame}
 use Rattle.sb_frames.specs.declared.frame.Frame.TheVariants.{Outcome}
 use Rattle.ask_client.specs.Batches.{BatchOf, after_outcomes, outcome_frames}
-use Rattle.ask_client.specs.Conversations.{TellsFirst}
+use Rattle.ask_client.specs.Conversations.{Hears, TellsFirst}
 use Rattle.ask_client.specs.OutcomeLines.{outcome_line, outcome_lines}
+use Rattle.ask_client.specs.declared.talk_fault.TalkFault.{TalkFault}
+use Rattle.ask_client.specs.declared.talk_fault.TalkFault.TheVariants.{Connection, OutOfMemory, Unexpected}
 
 -- a list that isn't empty has an element
 pub some_element : {X : Type 0} (xs : List X) → xs ≢ [] → 0 < length xs
@@ -123,3 +126,10 @@ tells_fed batch left bytes rest more a b told =
       lines_are = told.lines_are;
       left_is = told.left_is;
     }
+
+-- nothing was asked, and so nothing was heard
+pub hears_nothing : (unread : Option (List ℕ)) (batch : BatchOf) (lines : List ℕ) (fault : TalkFault) → fault ≢ Unexpected
+    → Hears batch (Err fault) unread unread lines lines batch
+hears_nothing unread batch lines Connection other = ([], [], Consumes-nil unread, tells_nothing batch [] lines, _)
+hears_nothing unread batch lines OutOfMemory other = ([], [], Consumes-nil unread, tells_nothing batch [] lines, _)
+hears_nothing unread batch lines Unexpected other = absurd (other refl)

@@ -4,8 +4,10 @@
 mod address;
 mod command;
 mod listing;
+mod option_words;
 mod options;
 mod plan;
+mod subcommands;
 mod words;
 
 pub use address::here;

@@ -1,7 +1,7 @@
 //! The log that a file has.
 ghost use Rattle.std.specs.Prelude.{◌≡◌, ◌≢◌, ◌+◌, ◌++◌, ◌↔◌, ℕ, List, [], length, false, IfErr, IfOk, IsErrOf, MatchBool, OnErr};
 ghost use Rattle.sha2.specs.Hashers.{Holds256};
-ghost use Rattle.sb_log.specs.LogFiles.{HasFailed};
+ghost use Rattle.sb_log.specs.LogFiles.{HasFailed, Stays};
 ghost use Rattle.sb_log.specs.declared.log_fault.LogFault.TheVariants.{Device};
 ghost use Rattle.sb_ask_log.specs.LogFile.{log_bytes, with_line_end};
 ghost use Rattle.sb_ask_log.specs.Recovery.{IsReadFault, IsSameOrCut, IsUnchangedIfDamaged, ReadsAskLog};
@@ -46,9 +46,7 @@ impl LogInFile {
 /// - [`LogFault::Device`] if a read fails,
 /// - [`LogFault::OutOfMemory`] if memory is refused.
 pub fn read_asks<F: LogFile>(alloc: Global, file: &mut F) -> Result<LogInFile, LogFault>
-    ensures honest { F.IsHonest file.old ↔ F.IsHonest file.new }
-    ensures content { F.IsHonest file.old → F.content file.new ≡ F.content file.old }
-    ensures synced { F.IsHonest file.old → F.synced file.new ≡ F.synced file.old }
+    ensures file { Stays F.IsHonest F.content F.synced file.old file.new }
     ensures read { F.IsHonest file.old → IfOk result (λ found. (rest : List ℕ)
         × ReadsAskLog (F.content file.old) found.text.items found.log.value.log rest
         × (found.end.torn ≡ length rest)) }

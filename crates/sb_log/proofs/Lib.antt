@@ -7,3 +7,4 @@ mod Readings
 pub mod Records
 mod Recoveries
 mod SoFar
+mod Staying

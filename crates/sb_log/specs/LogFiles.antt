@@ -1,5 +1,5 @@
 -- What is done to a log's file.
-use Rattle.std.specs.Prelude.{◌≡◌, ◌⊎◌, ℕ, ◌≤◌, min, Bool, true, Result, Ok, Err, List, ◌++◌, length, drop, take}
+use Rattle.std.specs.Prelude.{◌≡◌, ◌⊎◌, ◌↔◌, ℕ, ◌≤◌, min, Bool, true, Result, Ok, Err, List, ◌++◌, length, drop, take}
 use Rattle.sb_text.specs.declared.input.ReadFault.{ReadFault}
 use Rattle.sb_text.specs.declared.input.TheConstants.{READS}
 use Rattle.sb_text.specs.declared.input.ReadFault.TheVariants.{Device, OutOfMemory}
@@ -25,3 +25,10 @@ failed_after_read before (Err OutOfMemory) = before
 -- why a call answers Device: the device has failed, or the file has more bytes than it is read
 abbrev pub HasFailed : Bool → Type 0 → List ℕ → Type 0
 HasFailed failed Honest content = (failed ≡ true) ⊎ (Honest → READS ≤ length content)
+
+-- a file stays as it is: as honest as it was, and an honest one has the same bytes, as many of them synced
+pub record Stays {F : Type 0} (IsHonest : F → Type 0) (content : F → List ℕ) (synced : F → ℕ) (old new : F)
+    : Type 0 where
+  pub honest : IsHonest old ↔ IsHonest new
+  pub content_is : IsHonest old → content new ≡ content old
+  pub synced_is : IsHonest old → synced new ≡ synced old

@@ -3,7 +3,7 @@ ghost use Rattle.std.specs.Prelude.{◌≡◌, ◌⊎◌, ◌+◌, ◌<◌, ◌�
 ghost use Rattle.std.specs.List.{All};
 ghost use Rattle.sha2.specs.Hashers.{Holds256};
 ghost use Rattle.sb_log.specs.inner.Front.{HashesFront, IsFront};
-ghost use Rattle.sb_log.specs.LogFiles.{HasFailed};
+ghost use Rattle.sb_log.specs.LogFiles.{HasFailed, Stays};
 ghost use Rattle.sb_log.specs.declared.front.Front.TheVariants.{Record};
 ghost use Rattle.sb_log.specs.declared.log_fault.LogFault.TheVariants.{Device, OutOfMemory};
 
@@ -17,7 +17,7 @@ use sha2::Sha256;
 pub(crate) const PIECE: usize = 65_536;
 
 /// What stands at a place of a log's file.
-#[derive(Clone, Copy, Debug, PartialEq, Eq)]
+#[derive(Clone, Copy)]
 pub(crate) enum Front {
     /// A whole record.
     Record,
@@ -38,9 +38,7 @@ pub(crate) fn read_front<F: LogFile>(
     buffer: &mut Vec<u8>,
 ) -> Result<Front, LogFault>
     requires { at < 2 ^ 63 }
-    ensures honest { F.IsHonest file.old ↔ F.IsHonest file.new }
-    ensures content { F.IsHonest file.old → F.content file.new ≡ F.content file.old }
-    ensures synced { F.IsHonest file.old → F.synced file.new ≡ F.synced file.old }
+    ensures file { Stays F.IsHonest F.content F.synced file.old file.new }
     ensures front { F.IsHonest file.old → (before : List ℕ) → Holds256 hasher.old before
         → IfOk result (λ front. IsFront before (drop at (F.content file.old)) front buffer.new.items hasher.new) }
     // Whatever the file holds, the digest goes on by what was read of it.
@@ -86,9 +84,7 @@ pub(crate) fn count_rest<F: LogFile>(
     piece: &mut Vec<u8>,
 ) -> Result<(usize, bool), LogFault>
     requires { at < 2 ^ 63 }
-    ensures honest { F.IsHonest file.old ↔ F.IsHonest file.new }
-    ensures content { F.IsHonest file.old → F.content file.new ≡ F.content file.old }
-    ensures synced { F.IsHonest file.old → F.synced file.new ≡ F.synced file.old }
+    ensures file { Stays F.IsHonest F.content F.synced file.old file.new }
     ensures size { F.IsHonest file.old → IfOk result (λ rest. rest.0 ≡ length (drop at (F.content file.old))) }
     ensures blank { F.IsHonest file.old →
         IfOk result (λ rest. IsTrue rest.1 ↔ All (λ byte. byte ≡ 0) (drop at (F.content file.old))) }

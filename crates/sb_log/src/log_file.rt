@@ -1,6 +1,6 @@
 //! A file that grows at its end.
 ghost use Rattle.std.specs.Prelude.{◌≡◌, ◌⊎◌, ◌↔◌, ◌++◌, ◌||◌, ℕ, Bool, List, length, drop, take, is_err, OnOk, OnErr};
-ghost use Rattle.sb_log.specs.LogFiles.{AppendsUpTo, IsCutTo, StandAt, failed_after_read};
+ghost use Rattle.sb_log.specs.LogFiles.{AppendsUpTo, IsCutTo, StandAt, Stays, failed_after_read};
 
 use sb_text::ReadFault;
 use std::io;
@@ -26,9 +26,7 @@ pub trait LogFile: Drop {
     /// Appends to a buffer the bytes from a place on: so many, or fewer at the file's end. The file
     /// stays as it is.
     fn read_at(&mut self, at: usize, most: usize, out: &mut Vec<u8>) -> Result<(), ReadFault>
-        ensures honest { IsHonest self.old ↔ IsHonest self.new }
-        ensures content { IsHonest self.old → content self.new ≡ content self.old }
-        ensures synced { IsHonest self.old → synced self.new ≡ synced self.old }
+        ensures file { Stays IsHonest content synced self.old self.new }
         ensures read { IsHonest self.old →
             OnOk result (out.new.items ≡ out.old.items ++ take most (drop at (content self.old))) }
         ensures most { OnOk result (AppendsUpTo most out.old.items out.new.items) }
@@ -66,8 +64,6 @@ pub trait LogFile: Drop {
     /// failure either.
     fn write_again(&mut self, at: usize, bytes: &[u8]) -> io::Result<()>
         requires { IsHonest self.old → StandAt at bytes.now (content self.old) }
-        ensures honest { IsHonest self.old ↔ IsHonest self.new }
-        ensures content { IsHonest self.old → content self.new ≡ content self.old }
-        ensures synced { IsHonest self.old → synced self.new ≡ synced self.old }
+        ensures file { Stays IsHonest content synced self.old self.new }
         ensures failed { has_failed self.new ≡ (has_failed self.old || is_err result) };
 }

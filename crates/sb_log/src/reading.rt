@@ -2,7 +2,7 @@
 ghost use Rattle.std.specs.Prelude.{◌≡◌, ◌<◌, ◌≤◌, ◌^◌, ◌↔◌, drop, length, IfErr, IfOk, IsErrOf, OnOk};
 ghost use Rattle.sb_log.specs.LogCalls.{ReadsLog};
 ghost use Rattle.sb_log.specs.inner.Refusals.{IsRefusalAt};
-ghost use Rattle.sb_log.specs.LogFiles.{HasFailed};
+ghost use Rattle.sb_log.specs.LogFiles.{HasFailed, Stays};
 ghost use Rattle.sb_log.specs.Replaying.{HoldsReplayed};
 ghost use Rattle.sb_log.specs.declared.log_fault.LogFault.TheVariants.{Device};
 
@@ -33,9 +33,7 @@ pub fn read_log<F: LogFile, T: Replay>(
     file: &mut F,
     replay: &mut T,
 ) -> Result<LogEnd, LogFault>
-    ensures honest { F.IsHonest file.old ↔ F.IsHonest file.new }
-    ensures content { F.IsHonest file.old → F.content file.new ≡ F.content file.old }
-    ensures synced { F.IsHonest file.old → F.synced file.new ≡ F.synced file.old }
+    ensures file { Stays F.IsHonest F.content F.synced file.old file.new }
     ensures read { F.IsHonest file.old
         → ReadsLog T.Replays T.Refuses (F.content file.old) replay.old result replay.new }
     // Whatever the file holds, the hasher holds what was replayed.
@@ -84,9 +82,7 @@ fn replay_record<F: LogFile, T: Replay>(
 ) -> Result<(), LogFault>
     requires place { at < 2 ^ 63 }
     requires head { HEAD ≤ length buffer.old.items }
-    ensures honest { F.IsHonest file.old ↔ F.IsHonest file.new }
-    ensures content { F.IsHonest file.old → F.content file.new ≡ F.content file.old }
-    ensures synced { F.IsHonest file.old → F.synced file.new ≡ F.synced file.old }
+    ensures file { Stays F.IsHonest F.content F.synced file.old file.new }
     ensures replayed { OnOk result (T.Replays replay.old (drop HEAD buffer.old.items) replay.new) }
     ensures record { OnOk result (buffer.new.items ≡ buffer.old.items) }
     ensures fault { IfErr result (IsRefusalAt (F.IsHonest file.old) (F.content file.old) at

@@ -3,7 +3,7 @@ ghost use Rattle.std.specs.Prelude.{◌≡◌, ◌⊎◌, ◌≤◌, ◌↔◌, 
 ghost use Rattle.sb_log.specs.Lives.{Life};
 ghost use Rattle.sb_log.specs.LogCalls.{IsFileOf, Recovers};
 ghost use Rattle.sb_log.specs.Replaying.{HoldsReplayed};
-ghost use Rattle.sb_log.specs.LogFiles.{HasFailed, IsCutTo};
+ghost use Rattle.sb_log.specs.LogFiles.{HasFailed, Stays};
 ghost use Rattle.sb_log.specs.declared.log_fault.LogFault.TheVariants.{Device, OutOfMemory};
 
 use crate::front::PIECE;
@@ -70,9 +70,7 @@ pub(crate) fn sync_all<F: LogFile>(file: &mut F) -> Result<(), LogFault>
 // Writes so many bytes of a file once more.
 fn write_again<F: LogFile>(file: &mut F, size: usize, piece: &mut Vec<u8>) -> Result<(), LogFault>
     requires { F.IsHonest file.old → size ≤ length (F.content file.old) }
-    ensures honest { F.IsHonest file.old ↔ F.IsHonest file.new }
-    ensures content { F.IsHonest file.old → F.content file.new ≡ F.content file.old }
-    ensures synced { F.IsHonest file.old → F.synced file.new ≡ F.synced file.old }
+    ensures file { Stays F.IsHonest F.content F.synced file.old file.new }
     ensures fault { IfErr result (λ fault. (fault ≡ Device) ⊎ (fault ≡ OutOfMemory)) }
     ensures device { IsErrOf result Device
         → HasFailed (F.has_failed file.new) (F.IsHonest file.old) (F.content file.old) }

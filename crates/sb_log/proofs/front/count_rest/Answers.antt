@@ -1,15 +1,16 @@
 use Rattle.std.proofs.Common.{◌≡◌, ◌≤◌, ◌<◌, ◌+◌, ◌↔◌, ℕ, IsTrue, true≢false, length, drop, sym, ap, subst, ◌∙◌, arith, length-append, inl, inr}
 use Rattle.std.proofs.lemmas.Bool.{cases_lt, eqb-true, eqb-false}
 use Rattle.sb_log.proofs.Counts.{Counted, IsBlank, all_counted, one_more, piece_is}
+use Rattle.sb_log.proofs.Staying.{stays_then}
 use Rattle.sb_log.proofs.front.count_rest.Goals as goal
 use Rattle.sb_log.proofs.front.count_rest.Goals.{then-blank, else-blank}
 
 pub returns-then-is_empty-clause-size : goal.returns-then-is_empty-clause-size
 returns-then-is_empty-clause-size g c honest =
     let content = g.F.LogFile.content c.args.file.now in
-    let here = c.loop.invariant.honest.0 honest in
+    let here = c.loop.invariant.file.honest.0 honest in
     let piece = piece_is (g.F.LogFile.content c.loop.file) content c.clear.new.self.items c.read_at.new.out.items c.args.at c.loop.size 65536
-    (c.loop.invariant.content honest) c.clear.ensures.items (c.in_ok-read_at.ensures.read here) in
+    (c.loop.invariant.file.content_is honest) c.clear.ensures.items (c.in_ok-read_at.ensures.read here) in
     let none : c.read_at.new.out.len ≡ 0 = eqb-true _ _ (sym c.is_empty.ensures ∙ c.if-is_empty.true) in
     (all_counted (drop c.args.at content) c.loop.size 65536 c.loop.blank (c.loop.invariant.counted honest) (omega arith)
     (ap length (sym piece) ∙ sym c.read_at.new.out.ok.0 ∙ none)).0
@@ -17,9 +18,9 @@ returns-then-is_empty-clause-size g c honest =
 pub returns-then-is_empty-clause-blank : goal.returns-then-is_empty-clause-blank
 returns-then-is_empty-clause-blank g c honest =
     let content = g.F.LogFile.content c.args.file.now in
-    let here = c.loop.invariant.honest.0 honest in
+    let here = c.loop.invariant.file.honest.0 honest in
     let piece = piece_is (g.F.LogFile.content c.loop.file) content c.clear.new.self.items c.read_at.new.out.items c.args.at c.loop.size 65536
-    (c.loop.invariant.content honest) c.clear.ensures.items (c.in_ok-read_at.ensures.read here) in
+    (c.loop.invariant.file.content_is honest) c.clear.ensures.items (c.in_ok-read_at.ensures.read here) in
     let none : c.read_at.new.out.len ≡ 0 = eqb-true _ _ (sym c.is_empty.ensures ∙ c.if-is_empty.true) in
     (all_counted (drop c.args.at content) c.loop.size 65536 c.loop.blank (c.loop.invariant.counted honest) (omega arith)
     (ap length (sym piece) ∙ sym c.read_at.new.out.ok.0 ∙ none)).1
@@ -35,19 +36,15 @@ loop-preserved g c =
     let few : c.len-size.result ≤ 65536 =
     omega (arith, most.1, ap length most.2, length-append c.clear.new.self.items most.0, ap length c.clear.ensures.items, len) in
     record {
-      honest = (
-        (λ h. c.read_at.ensures.honest.0 (c.loop.invariant.honest.0 h)),
-        (λ h. c.loop.invariant.honest.1 (c.read_at.ensures.honest.1 h)),
-      );
-      content = λ h. c.read_at.ensures.content (c.loop.invariant.honest.0 h) ∙ c.loop.invariant.content h;
-      synced = λ h. c.read_at.ensures.synced (c.loop.invariant.honest.0 h) ∙ c.loop.invariant.synced h;
+      file = stays_then g.F.LogFile.IsHonest g.F.LogFile.content g.F.LogFile.synced c.args.file.now c.loop.file c.read_at.new.self
+          c.loop.invariant.file c.read_at.ensures.file;
       counter = omega (arith, some, len, c.read_at.new.out.ok.0);
       bound = omega (arith, few);
       counted = λ honest.
           let content = g.F.LogFile.content c.args.file.now in
-          let here = c.loop.invariant.honest.0 honest in
+          let here = c.loop.invariant.file.honest.0 honest in
           let piece = piece_is (g.F.LogFile.content c.loop.file) content c.clear.new.self.items c.read_at.new.out.items c.args.at c.loop.size 65536
-          (c.loop.invariant.content honest) c.clear.ensures.items (c.in_ok-read_at.ensures.read here) in
+          (c.loop.invariant.file.content_is honest) c.clear.ensures.items (c.in_ok-read_at.ensures.read here) in
           let both : IsTrue c.if-blank.blank ↔ (IsTrue c.loop.blank × IsBlank c.read_at.new.out.items) = elim c.if-blank.branch [
             | then-blank w ↦ (
               (λ yes. (w.if-blank.true, subst IsBlank w.deref.ensures.value (w.is_blank-blank.ensures.0 (sym w.blank-is ∙ yes)))),

@@ -9,12 +9,12 @@ use Rattle.sb_log.proofs.front.read_front.Goals as goal
 
 pub returns-in_err-size-clause-device : goal.returns-in_err-size-clause-device
 returns-in_err-size-clause-device g c err =
-    failed_before _ _ _ c.read_at.ensures.honest.0 c.read_at.ensures.content (c.in_err-size.ensures.device (search (rules, err)))
+    failed_before _ _ _ c.read_at.ensures.file.honest.0 c.read_at.ensures.file.content_is (c.in_err-size.ensures.device (search (rules, err)))
 
 pub returns-in_err-size-2-clause-device : goal.returns-in_err-size-2-clause-device
 returns-in_err-size-2-clause-device g c err =
-    failed_before _ _ _ c.read_at.ensures.honest.0 c.read_at.ensures.content
-    (failed_before _ _ _ c.read_at-2.ensures.honest.0 c.read_at-2.ensures.content (c.in_err-size-2.ensures.device (search (rules, err))))
+    failed_before _ _ _ c.read_at.ensures.file.honest.0 c.read_at.ensures.file.content_is
+    (failed_before _ _ _ c.read_at-2.ensures.file.honest.0 c.read_at-2.ensures.file.content_is (c.in_err-size-2.ensures.device (search (rules, err))))
 
 pub returns-then-blank-clause-front : goal.returns-then-blank-clause-front
 returns-then-blank-clause-front g c honest before holds =
@@ -24,8 +24,8 @@ returns-then-blank-clause-front g c honest before holds =
     first_read content c.clear.new.self.items c.read_at.new.out.items c.deref.result.now c.args.at c.clear.ensures.items
     (c.in_ok-read_at.ensures.read honest) c.deref.ensures.value in
     let none : StatesNone rest = none_stated rest c.deref.result.now first c.in_default.ensures in
-    let same : drop c.args.at (g.F.LogFile.content c.read_at.new.self) ≡ rest = ap (drop c.args.at) (c.read_at.ensures.content honest) in
-    let there = c.read_at.ensures.honest.0 honest in (
+    let same : drop c.args.at (g.F.LogFile.content c.read_at.new.self) ≡ rest = ap (drop c.args.at) (c.read_at.ensures.file.content_is honest) in
+    let there = c.read_at.ensures.file.honest.0 honest in (
       inr (subst IsBlank same ((c.in_ok-size.ensures.blank there).0 c.if-blank.true)),
       c.in_ok-size.ensures.size there ∙ ap length same,
       no_record_stated before rest none,
@@ -40,8 +40,8 @@ returns-else-blank-clause-front g c honest before holds =
     first_read content c.clear.new.self.items c.read_at.new.out.items c.deref.result.now c.args.at c.clear.ensures.items
     (c.in_ok-read_at.ensures.read honest) c.deref.ensures.value in
     let none : StatesNone rest = none_stated rest c.deref.result.now first c.in_default.ensures in
-    let same : drop c.args.at (g.F.LogFile.content c.read_at.new.self) ≡ rest = ap (drop c.args.at) (c.read_at.ensures.content honest) in
-    let there = c.read_at.ensures.honest.0 honest in (
+    let same : drop c.args.at (g.F.LogFile.content c.read_at.new.self) ≡ rest = ap (drop c.args.at) (c.read_at.ensures.file.content_is honest) in
+    let there = c.read_at.ensures.file.honest.0 honest in (
       not_torn_stated rest none
           (λ blank. true≢false (sym ((c.in_ok-size.ensures.blank there).1 (subst IsBlank (sym same) blank)) ∙ c.if-blank.false)),
       c.in_ok-size.ensures.size there ∙ ap length same,
@@ -76,8 +76,8 @@ returns-then-len-size-clause-front g c honest before holds =
     let read = c.read_at-2.new.out.items in
     let bytes : read ≡ take (40 + size) rest =
     second_read content (g.F.LogFile.content c.read_at.new.self) c.read_at.new.out.items read read c.args.at size
-    (c.read_at.ensures.content honest) (sym c.deref.ensures.value ∙ first)
-    (c.in_ok-read_at-2.ensures.read (c.read_at.ensures.honest.0 honest)) refl in
+    (c.read_at.ensures.file.content_is honest) (sym c.deref.ensures.value ∙ first)
+    (c.in_ok-read_at-2.ensures.read (c.read_at.ensures.file.honest.0 honest)) refl in
     let len : c.len-then-len-size.result ≡ length read = c.len-then-len-size.ensures ∙ c.read_at-2.new.out.ok.0 in
     let few : length read < 40 + size = omega (arith, len, c.len-2.ensures, c.len-then-len-size.ensures) in
     let all : length read ≡ length rest = all_read rest read (40 + size) bytes few in
@@ -96,8 +96,8 @@ returns-then-not-are_same-clause-front g c honest before holds =
     let read = c.read_at-2.new.out.items in
     let bytes : read ≡ take (40 + size) rest =
     second_read content (g.F.LogFile.content c.read_at.new.self) c.read_at.new.out.items read read c.args.at size
-    (c.read_at.ensures.content honest) (sym c.deref.ensures.value ∙ first)
-    (c.in_ok-read_at-2.ensures.read (c.read_at.ensures.honest.0 honest)) refl in
+    (c.read_at.ensures.file.content_is honest) (sym c.deref.ensures.value ∙ first)
+    (c.in_ok-read_at-2.ensures.read (c.read_at.ensures.file.honest.0 honest)) refl in
     let head : 40 ≤ length rest =
     all_there rest c.deref.result.now 40 first (omega
     (arith, c.len.ensures, c.read_at.new.out.ok.0, ap length c.deref.ensures.value, c.if-len-lt-HEAD.false)) in
@@ -110,8 +110,8 @@ returns-then-not-are_same-clause-front g c honest before holds =
     (λ same.
     true≢false (sym (c.are_same.ensures.1 (ap (λ (l : List ℕ). take 32 (drop 8 l)) c.deref-3.ensures.value ∙ same ∙ sym digest)) ∙ c.if-not-are_same.true)) in
     let same : drop c.args.at (g.F.LogFile.content c.read_at-2.new.self) ≡ rest =
-    ap (drop c.args.at) (c.read_at-2.ensures.content (c.read_at.ensures.honest.0 honest) ∙ c.read_at.ensures.content honest) in
-    let there = c.read_at-2.ensures.honest.0 (c.read_at.ensures.honest.0 honest) in
+    ap (drop c.args.at) (c.read_at-2.ensures.file.content_is (c.read_at.ensures.file.honest.0 honest) ∙ c.read_at.ensures.file.content_is honest) in
+    let there = c.read_at-2.ensures.file.honest.0 (c.read_at.ensures.file.honest.0 honest) in
     (bad.0, c.in_ok-size-2.ensures.size there ∙ ap length same, bad.1)
 
 pub returns-clause-front : goal.returns-clause-front
@@ -126,8 +126,8 @@ returns-clause-front g c honest before holds =
     let read = c.read_at-2.new.out.items in
     let bytes : read ≡ take (40 + size) rest =
     second_read content (g.F.LogFile.content c.read_at.new.self) c.read_at.new.out.items read read c.args.at size
-    (c.read_at.ensures.content honest) (sym c.deref.ensures.value ∙ first)
-    (c.in_ok-read_at-2.ensures.read (c.read_at.ensures.honest.0 honest)) refl in
+    (c.read_at.ensures.file.content_is honest) (sym c.deref.ensures.value ∙ first)
+    (c.in_ok-read_at-2.ensures.read (c.read_at.ensures.file.honest.0 honest)) refl in
     let head : 40 ≤ length rest =
     all_there rest c.deref.result.now 40 first (omega
     (arith, c.len.ensures, c.read_at.new.out.ok.0, ap length c.deref.ensures.value, c.if-len-lt-HEAD.false)) in

@@ -10,25 +10,27 @@ use Rattle.sb_log.specs.Records.{body_bytes}
 use Rattle.sb_log.proofs.Failures.{err_is, failed_before}
 use Rattle.sb_log.proofs.Fronts.{body_in}
 use Rattle.sb_log.proofs.SoFar.{ReadSoFar, holds_one_more, one_read, reads_all, refused}
+use Rattle.sb_log.proofs.Staying.{stays_then}
 use Rattle.sb_log.proofs.reading.read_log.Goals as goal
 
 pub returns-in_err-read_front-clause-device : goal.returns-in_err-read_front-clause-device
 returns-in_err-read_front-clause-device g c err =
-    failed_before _ _ _ c.loop.invariant.honest.0 c.loop.invariant.content (c.in_err-read_front.ensures.device (search (rules, err)))
+    failed_before _ _ _ c.loop.invariant.file.honest.0 c.loop.invariant.file.content_is (c.in_err-read_front.ensures.device (search (rules, err)))
 
 pub returns-in_err-replay_record-in-Record-clause-device : goal.returns-in_err-replay_record-in-Record-clause-device
 returns-in_err-replay_record-in-Record-clause-device g c err =
-    failed_before _ _ _ c.loop.invariant.honest.0 c.loop.invariant.content
-    (failed_before _ _ _ c.read_front.ensures.honest.0 c.read_front.ensures.content (c.in_err-replay_record-in-Record.ensures.device (search (rules, err))))
+    failed_before _ _ _ c.loop.invariant.file.honest.0 c.loop.invariant.file.content_is
+    (failed_before _ _ _ c.read_front.ensures.file.honest.0 c.read_front.ensures.file.content_is
+    (c.in_err-replay_record-in-Record.ensures.device (search (rules, err))))
 
 pub returns-in_err-replay_record-in-Record-clause-read : goal.returns-in_err-replay_record-in-Record-clause-read
 returns-in_err-replay_record-in-Record-clause-read g c honest =
     let content = g.F.LogFile.content c.args.file.now in
-    let here = c.loop.invariant.honest.0 honest in
-    let there = c.read_front.ensures.honest.0 here in
+    let here = c.loop.invariant.file.honest.0 honest in
+    let there = c.read_front.ensures.file.honest.0 here in
     let s = c.loop.invariant.so_far honest in
     let same : drop c.loop.records (g.F.LogFile.content c.loop.file) ≡ drop c.loop.records content = ap (drop c.loop.records)
-    (c.loop.invariant.content honest) in
+    (c.loop.invariant.file.content_is honest) in
     let front = subst (λ (f : Front). IsFront (body_bytes s.bodies) (drop c.loop.records
     (g.F.LogFile.content c.loop.file)) f c.read_front.new.buffer.items c.read_front.new.hasher)
     c.in-Record.is (c.in_ok-read_front.ensures.front here (body_bytes s.bodies) s.holds) in
@@ -36,7 +38,7 @@ returns-in_err-replay_record-in-Record-clause-read g c honest =
     let known : c.from_residual-in_err-replay_record-in-Record.result ≡ Err fault =
     err_is _ fault c.from_residual-in_err-replay_record-in-Record.ensures.0 c.from_residual-in_err-replay_record-in-Record.ensures.1 in
     let body_is : drop 40 c.read_front.new.buffer.items ≡ front.0 = ap (drop 40) front.3 ∙ body_in (body_bytes s.bodies) front.0 in
-    let unchanged : g.F.LogFile.content c.read_front.new.file ≡ content = c.read_front.ensures.content here ∙ c.loop.invariant.content honest in
+    let unchanged : g.F.LogFile.content c.read_front.new.file ≡ content = c.read_front.ensures.file.content_is here ∙ c.loop.invariant.file.content_is honest in
     let Honest = g.F.LogFile.IsHonest c.read_front.new.file in
     let refusal : IsRefusalAt Honest content c.loop.records (g.T.Replay.Refuses c.loop.replay front.0) fault =
     subst (λ (body : List ℕ). IsRefusalAt Honest content c.loop.records (g.T.Replay.Refuses c.loop.replay body) fault) body_is
@@ -49,10 +51,10 @@ returns-in_err-replay_record-in-Record-clause-read g c honest =
 pub returns-in-Damaged-clause-read : goal.returns-in-Damaged-clause-read
 returns-in-Damaged-clause-read g c honest =
     let content = g.F.LogFile.content c.args.file.now in
-    let here = c.loop.invariant.honest.0 honest in
+    let here = c.loop.invariant.file.honest.0 honest in
     let s = c.loop.invariant.so_far honest in
     let rest = drop c.loop.records content in
-    let same : drop c.loop.records (g.F.LogFile.content c.loop.file) ≡ rest = ap (drop c.loop.records) (c.loop.invariant.content honest) in
+    let same : drop c.loop.records (g.F.LogFile.content c.loop.file) ≡ rest = ap (drop c.loop.records) (c.loop.invariant.file.content_is honest) in
     let front = subst (λ (f : Front). IsFront (body_bytes s.bodies) (drop c.loop.records
     (g.F.LogFile.content c.loop.file)) f c.read_front.new.buffer.items c.read_front.new.hasher)
     c.in-Damaged.is (c.in_ok-read_front.ensures.front here (body_bytes s.bodies) s.holds) in
@@ -79,14 +81,10 @@ loop-preserved g c =
     let len : length c.read_front.new.buffer.items ≡ c.len-records.result =
     ap length (sym record_same) ∙ sym c.replay_record.new.buffer.ok.0 ∙ sym c.len-records.ensures in
     record {
-      honest = (
-        (λ h. c.replay_record.ensures.honest.0 (c.read_front.ensures.honest.0 (c.loop.invariant.honest.0 h))),
-        (λ h. c.loop.invariant.honest.1 (c.read_front.ensures.honest.1 (c.replay_record.ensures.honest.1 h))),
-      );
-      content = λ h. let here = c.loop.invariant.honest.0 h in
-          c.replay_record.ensures.content (c.read_front.ensures.honest.0 here) ∙ c.read_front.ensures.content here ∙ c.loop.invariant.content h;
-      synced = λ h. let here = c.loop.invariant.honest.0 h in
-          c.replay_record.ensures.synced (c.read_front.ensures.honest.0 here) ∙ c.read_front.ensures.synced here ∙ c.loop.invariant.synced h;
+      file = stays_then g.F.LogFile.IsHonest g.F.LogFile.content g.F.LogFile.synced c.args.file.now c.loop.file c.replay_record.new.file
+          c.loop.invariant.file
+          (stays_then g.F.LogFile.IsHonest g.F.LogFile.content g.F.LogFile.synced c.loop.file c.read_front.new.file c.replay_record.new.file
+          c.read_front.ensures.file c.replay_record.ensures.file);
       counter = omega (arith, size.0, len, c.loop.invariant.counter);
       bound = omega (arith, size.1, len, c.loop.invariant.bound);
       replays = holds_one_more g.T.Replay.Replays c.args.replay.now c.loop.replay c.replay_record.new.replay c.loop.hasher c.read_front.new.hasher
@@ -97,10 +95,10 @@ loop-preserved g c =
           c.in_ok-replay_record-in-Record.ensures.replayed;
       so_far = λ honest.
           let content = g.F.LogFile.content c.args.file.now in
-          let here = c.loop.invariant.honest.0 honest in
+          let here = c.loop.invariant.file.honest.0 honest in
           let s = c.loop.invariant.so_far honest in
           let same : drop c.loop.records (g.F.LogFile.content c.loop.file) ≡ drop c.loop.records content = ap (drop c.loop.records)
-          (c.loop.invariant.content honest) in
+          (c.loop.invariant.file.content_is honest) in
           let front = subst (λ (f : Front). IsFront (body_bytes s.bodies) (drop c.loop.records
           (g.F.LogFile.content c.loop.file)) f c.read_front.new.buffer.items c.read_front.new.hasher)
           c.in-Record.is (c.in_ok-read_front.ensures.front here (body_bytes s.bodies) s.holds) in

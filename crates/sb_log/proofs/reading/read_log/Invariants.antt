@@ -1,13 +1,12 @@
-use Rattle.std.proofs.Common.{◌≡◌, ◌≤◌, ◌*◌, ◌↔◌}
+use Rattle.std.proofs.Common.{◌≡◌, ◌≤◌, ◌*◌}
 use Rattle.sb_log.specs.Replaying.{HoldsReplayed}
 use Rattle.sb_log.proofs.SoFar.{ReadSoFar}
+use Rattle.sb_log.specs.LogFiles.{Stays}
 use Rattle.sb_log.proofs.reading.read_log.Given as goal
 
 abbrev pub invariant-loop : goal.invariant-loop
 invariant-loop g l = record {
-  honest : g.F.LogFile.IsHonest l.fn.file ↔ g.F.LogFile.IsHonest l.file;
-  content : g.F.LogFile.IsHonest l.fn.file → g.F.LogFile.content l.file ≡ g.F.LogFile.content l.fn.file;
-  synced : g.F.LogFile.IsHonest l.fn.file → g.F.LogFile.synced l.file ≡ g.F.LogFile.synced l.fn.file;
+  file : Stays g.F.LogFile.IsHonest g.F.LogFile.content g.F.LogFile.synced l.fn.file l.file;
   counter : l.counter ≤ l.records;
   bound : l.records ≤ l.counter * 4294967336;
   replays : HoldsReplayed g.T.Replay.Replays l.fn.replay l.hasher l.replay;
