@@ -43,3 +43,7 @@ pub use standard_streams::{input, output};
 pub use telling::tell;
 pub use trouble::{Cause, Trouble};
 pub use watch::Watch;
+
+// What the program's words and faults are about, of the crates below.
+pub use bank_server::RunFault;
+pub use schedule_player::run_schedule;

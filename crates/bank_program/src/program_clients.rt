@@ -11,11 +11,10 @@ use crate::trouble::Trouble;
 use bank_clients::{ClientSockets, Limits, Sessions};
 use bank_server::Primary;
 use bank_service::{ManyServer, ServeFault, serve_many};
-use cown_bench::WORKERS;
 use program_words::Plan;
 use sb_ask_log::Keeper;
+use sb_calls::{REPLICAS, WORKERS};
 use sb_checkpoint::CheckpointStore;
-use sb_sequencer::REPLICAS;
 use std::net::{Net, SocketAddr};
 use std::sync::Wait;
 use std::thread::Threads;
@@ -42,24 +41,8 @@ where
     ensures fault { IfErr result (λ fault. IsPortFault port fault
         ⊎ IsServingFault plan.nodes (0 < plan.workers) plan.saves K.fails fault) }
 {
+    let (port, connections) = connections_at(rt, threads, port, clients, &plan, trouble)?;
     let alloc = rt.alloc();
-    let limits = Limits {
-        at_once: clients,
-        in_all: plan.sessions,
-        patience: plan
-            .patience
-            .map(|seconds| Duration::from_secs(seconds as u64)),
-    };
-    let address = SocketAddr::new(plan.host, port);
-    let listener = listen_for_many(threads, address, trouble)?;
-    let made = ClientSockets::new(threads, threads, alloc, listener, limits);
-    let connections = trouble.noted(Device::Address(address), made)?;
-    let port = trouble.noted(Device::Address(address), connections.port())?;
-    let connections = ToldSockets {
-        inner: connections,
-        rt: *rt,
-        is_quiet: plan.is_quiet,
-    };
     let sessions = Sessions::open(alloc, connections, clients)?;
     serve_many(
         threads,
@@ -73,4 +56,37 @@ where
         },
     )?;
     Ok(())
+}
+
+// The connections of up to this many clients at a port of the plan's host, and the port, if it was any free one.
+fn connections_at<'r, H>(
+    rt: &HostRuntime,
+    threads: &'r H,
+    port: u16,
+    clients: usize,
+    plan: &Plan,
+    trouble: &Trouble<'_>,
+) -> Result<(u16, ToldSockets<'r, H>), ServeFault>
+where
+    H: Clock + Net,
+    ensures fault { IfErr result (IsPortFault port) }
+{
+    let limits = Limits {
+        at_once: clients,
+        in_all: plan.sessions,
+        patience: plan
+            .patience
+            .map(|seconds| Duration::from_secs(seconds as u64)),
+    };
+    let address = SocketAddr::new(plan.host, port);
+    let listener = listen_for_many(threads, address, trouble)?;
+    let made = ClientSockets::new(threads, threads, rt.alloc(), listener, limits);
+    let inner = trouble.noted(Device::Address(address), made)?;
+    let port = trouble.noted(Device::Address(address), inner.port())?;
+    let connections = ToldSockets {
+        inner,
+        rt: *rt,
+        is_quiet: plan.is_quiet,
+    };
+    Ok((port, connections))
 }

@@ -123,8 +123,8 @@ fn end_of_records<F: LogFile>(alloc: Global, file: &mut F) -> Result<usize, List
     }
 }
 
-// Has what a file has from a place on in a new file beside it, on the disk. If there is nothing, no file
-// is made.
+// Copies what a file has from a place on to a new file beside it, and syncs that. If there is nothing, no
+// file is made.
 fn move_rest(
     rt: &HostRuntime,
     folder: &str,
@@ -137,20 +137,36 @@ fn move_rest(
         return Ok(());
     }
     let folder = PathBuf::from_str(alloc, folder)?;
-    let path = folder.join(alloc, REST)?;
+    let mut rest = new_rest(rt, &folder)?;
+    write_rest(file, from, &mut piece, &mut rest)?;
+    rest.sync_all()?;
+    fs::open(rt, &folder)?.sync_all()
+}
+
+// A new file in this folder for what is cut off.
+fn new_rest(rt: &HostRuntime, folder: &PathBuf) -> io::Result<File> {
+    let path = folder.join(rt.alloc(), REST)?;
     let mut options = OpenOptions::new();
     options.write(true).create_new(true);
-    let mut rest = options.open(rt, &path)?;
+    options.open(rt, &path)
+}
+
+// Writes what a file has from a place on. The piece there was read already.
+fn write_rest<W: Write>(
+    file: &mut SystemFile<'_>,
+    from: usize,
+    piece: &mut Vec<u8>,
+    rest: &mut W,
+) -> io::Result<()> {
     let mut at = from;
     for _ in 0..u64::MAX {
-        rest.write_all(&piece)?;
+        rest.write_all(piece)?;
         at = at.saturating_add(piece.len());
-        if !read_piece(file, at, &mut piece)? {
+        if !read_piece(file, at, piece)? {
             break;
         }
     }
-    rest.sync_all()?;
-    fs::open(rt, &folder)?.sync_all()
+    Ok(())
 }
 
 // Reads the piece of a file at a place, and answers whether there is one.

@@ -18,13 +18,12 @@ use bank_server::{Primary, RunFault};
 use bank_service::{
     ServeFault, Server, SocketListener, find_bank, open_on_file, serve, serve_bank, whole_opening,
 };
-use cown_bench::WORKERS;
 use program_words::Plan;
 use sb_ask_log::{AskLog, Keeper};
+use sb_calls::{REPLICAS, WORKERS};
 use sb_checkpoint::{CheckpointStore, FileStore, FileWithSpare, FolderFile};
 use sb_log::{LogFile, Reason, SystemFile};
 use sb_rows::Opening;
-use sb_sequencer::REPLICAS;
 use sb_text::read_all;
 use std::alloc::{AllocError, Global};
 use std::io::{Read, Write};

@@ -39,23 +39,40 @@ impl SessionNote {
 
 impl fmt::Display for SessionNote {
     fn fmt<W: fmt::Write>(&self, f: &mut fmt::Formatter<W>) -> fmt::Result {
-        let Traffic {
-            peer,
-            read,
-            written,
-            lasted,
-        } = self.traffic;
         f.write_str("smallbank: ")?;
+        self.write_origin(f)?;
+        let AskCounts {
+            entries,
+            repeats,
+            ..
+        } = self.counts;
+        let asks = self.counts.asks();
+        write!(f, "asks {asks} new {entries} repeats {repeats} ")?;
+        self.write_traffic(f)
+    }
+}
+
+impl SessionNote {
+    // When it was over, and whose it was, as far as that is known.
+    fn write_origin<W: fmt::Write>(&self, f: &mut fmt::Formatter<W>) -> fmt::Result {
         if let Some(second) = self.second {
             if let Ok(time) = Timestamp::from_second(second) {
                 write!(f, "{time} ")?;
             }
         }
-        if let Some(peer) = peer {
-            write!(f, "{peer} ")?;
+        match self.traffic.peer {
+            Some(peer) => write!(f, "{peer} "),
+            None => Ok(()),
         }
-        let (asks, new, repeats) = (self.counts.asks(), self.counts.entries, self.counts.repeats);
-        write!(f, "asks {asks} new {new} repeats {repeats} ")?;
+    }
+
+    fn write_traffic<W: fmt::Write>(&self, f: &mut fmt::Formatter<W>) -> fmt::Result {
+        let Traffic {
+            read,
+            written,
+            lasted,
+            ..
+        } = self.traffic;
         let (seconds, millis) = (lasted.as_secs(), lasted.subsec_millis());
         write!(
             f,

@@ -4,13 +4,11 @@
 ghost use Rattle.program_words.specs.Words.{InRange};
 
 use bank_program::{
-    Device, ProgramFault, Trouble, ask_program, checkpoint_program, input, log_program, output,
-    run_program, serve_program, tell,
+    Device, ProgramFault, RunFault, Trouble, ask_program, checkpoint_program, input, log_program,
+    output, run_program, run_schedule, serve_program, tell,
 };
-use bank_server::RunFault;
 use clap::error::ErrorKind;
 use program_words::{LogWords, ServeWords, Words, read_words, refuse_bytes};
-use schedule_player::run_schedule;
 use std::net::Net;
 use std::process::ExitCode;
 use std::sync::Wait;

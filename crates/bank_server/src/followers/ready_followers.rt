@@ -11,11 +11,11 @@ use super::follower::Follower;
 use crate::node0::open_boxed;
 use cown_board::Runs;
 use crossbeam_channel::{Sender, bounded};
+use sb_calls::REPLICAS;
 use sb_checkpoint::{CheckpointStore, MemoryStore};
 use sb_frames::Stream;
 use sb_replica::Replica;
 use sb_rows::{Columns, Directory};
-use sb_sequencer::REPLICAS;
 use std::alloc::{AllocError, Global};
 use std::marker::Model;
 

@@ -7,9 +7,8 @@ ghost use Rattle.bank_server.specs.Team.{IsDoneBy};
 
 use crate::fault::RunFault;
 use crate::followers::{Followers, ReadyFollowers, with_followers};
-use cown_bench::WORKERS;
 use cown_workers::{BenchCrew, Crew, Gate, InlineCrew, with_crew};
-use sb_sequencer::REPLICAS;
+use sb_calls::{REPLICAS, WORKERS};
 use std::alloc::Global;
 use std::sync::Wait;
 use std::thread::Threads;

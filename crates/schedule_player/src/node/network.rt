@@ -10,8 +10,8 @@ ghost use Rattle.schedule_player.specs.World.{bank_with};
 
 use crate::fault::StepFault;
 use crate::node::Node;
+use sb_calls::REPLICAS;
 use sb_replica::Heard;
-use sb_sequencer::REPLICAS;
 use schedule_sequencer::DurableSequencer;
 use schedule_text::Note;
 

@@ -13,9 +13,8 @@ ghost use Rattle.schedule_text.specs.ScheduleText.{ScheduleOf};
 
 use crate::world::World;
 use cown_board::Runs;
-use sb_calls::{Call, Reply};
+use sb_calls::{Call, REPLICAS, Reply};
 use sb_rows::{Columns, Directory};
-use sb_sequencer::REPLICAS;
 
 impl World {
     /// The number of replicas, at most sixteen.

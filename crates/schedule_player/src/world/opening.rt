@@ -11,9 +11,8 @@ ghost use Rattle.schedule_player.specs.declared.node.Node.{Node as AnyNode};
 
 use crate::node::Node;
 use crate::world::World;
-use cown_bench::WORKERS;
+use sb_calls::{REPLICAS, WORKERS};
 use sb_rows::{Columns, Directory};
-use sb_sequencer::REPLICAS;
 use schedule_sequencer::DurableSequencer;
 use std::alloc::{AllocError, Global};
 

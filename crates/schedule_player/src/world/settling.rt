@@ -12,7 +12,7 @@ ghost use Rattle.schedule_text.specs.declared.event.NodeEvent.TheVariants as eve
 ghost use Rattle.schedule_text.specs.declared.note.Note.{Note as AnyNote};
 
 use crate::world::World;
-use cown_bench::WORKERS;
+use sb_calls::WORKERS;
 use schedule_text::NodeEvent;
 
 impl World {
