@@ -1,6 +1,8 @@
 //! Compares the product's column kernels with plain Rust loops, over columns of 65,536 values. The
-//! answers must be the same, and one table shows what a call of each takes.
+//! answers must be the same, and one table shows what a call of each takes. With the word `--check` there
+//! is no table.
 
+use std::env;
 use std::hint::black_box;
 use std::time::{Duration, Instant};
 
@@ -93,13 +95,21 @@ fn time_of<T>(mut call: impl FnMut() -> T) -> Duration {
     start.elapsed()
 }
 
-// The medians of some runs of both, in turn, as a row of the table.
+// Whether the answers are only compared.
+fn only_checks() -> bool {
+    env::args().nth(1).as_deref() == Some("--check")
+}
+
+// Compares the answers of both. Then the medians of some runs of both, in turn, are a row of the table.
 fn compare<T: PartialEq + std::fmt::Debug>(
     name: &str,
     mut product: impl FnMut() -> T,
     mut plain: impl FnMut() -> T,
 ) {
     assert_eq!(product(), plain(), "{name}");
+    if only_checks() {
+        return;
+    }
     let mut times = (Vec::new(), Vec::new());
     for _ in 0..RUNS {
         times.0.push(time_of(&mut product));
@@ -144,8 +154,10 @@ fn main() {
     compare_answers();
     let values = black_box(column(20));
     let copy = black_box(values.clone());
-    println!("| kernel | us a call | us, plain | ratio |");
-    println!("|---|---|---|---|");
+    if !only_checks() {
+        println!("| kernel | us a call | us, plain | ratio |");
+        println!("|---|---|---|---|");
+    }
     compare("sum", || product::sum(&values), || plain::sum(&values));
     compare(
         "first_difference, none",
@@ -162,4 +174,7 @@ fn main() {
         || product::count_below(&values, 0),
         || plain::count_below(&values, 0),
     );
+    if only_checks() {
+        println!("kernels: the same answers for each place of short columns, and for long ones");
+    }
 }

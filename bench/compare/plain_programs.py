@@ -24,5 +24,11 @@ def build(*projects):
         subprocess.run(words, cwd=PROJECTS[name], env=flags, check=True)
 
 
+def refuse(usage):
+    """Ends a script whose words are wrong."""
+    print(f"usage: bench/compare/{usage}", file=sys.stderr)
+    sys.exit(2)
+
+
 if __name__ == "__main__":
     build(*sys.argv[1:] or PROJECTS)

@@ -2,9 +2,10 @@
 //! one table shows the time and the memory of each. The plain program remembers requests that have a
 //! key, and in a second measure every request, as the product does.
 //!
-//! `beside PRODUCT PLAIN FOLDER`; inputs and outputs are kept in the folder. `beside workload SEED
-//! CUSTOMERS LINES` writes a workload to standard output, `beside row NUMBER` that of a row of the
-//! table, counted from 0, `beside faulty SEED` a small input.
+//! `beside PRODUCT PLAIN FOLDER`; inputs and outputs are kept in the folder. `beside check PRODUCT
+//! PLAIN FOLDER` compares both on fewer inputs, and measures nothing. `beside workload SEED CUSTOMERS
+//! LINES` writes a workload to standard output, `beside row NUMBER` that of a row of the table, counted
+//! from 0, `beside faulty SEED` a small input.
 
 mod faulty;
 mod measure;
@@ -21,11 +22,14 @@ use std::process::{Command, Output, Stdio};
 use std::{env, fs};
 use workload::Workload;
 
-const USAGE: &str = "usage: beside PRODUCT PLAIN FOLDER, \
+const USAGE: &str = "usage: beside [check] PRODUCT PLAIN FOLDER, \
     or beside workload SEED CUSTOMERS LINES, or beside row NUMBER, or beside faulty SEED";
 const RUNS: usize = 5;
 const SEED: u64 = 20;
 const FAULTY_INPUTS: u64 = 500;
+const CHECKED_INPUTS: u64 = 50;
+// How many calls a log takes.
+const LOG_CALLS: usize = 1_000_000;
 
 /// Makes a workload from a seed and its numbers of customers and lines.
 type Maker = fn(u64, u32, u32) -> Workload;
@@ -50,11 +54,11 @@ struct Bench {
 }
 
 impl Bench {
-    /// Compares both on small inputs, most of them at fault, and prints how often each fault came.
-    fn compare_small(&self) -> Answer<()> {
+    /// Compares both on this many small inputs, most of them at fault, and answers how often each fault came.
+    fn compare_small(&self, inputs: u64) -> Answer<BTreeMap<String, u32>> {
         let mut faults: BTreeMap<String, u32> = BTreeMap::new();
         let path = self.folder.join("small.txt");
-        for seed in 0..FAULTY_INPUTS {
+        for seed in 0..inputs {
             fs::write(&path, faulty::input(seed))?;
             let product = output(&self.product, &path)?;
             let plain = output(&self.plain, &path)?;
@@ -68,35 +72,59 @@ impl Bench {
                 *faults.entry(fault.to_owned()).or_default() += 1;
             }
         }
-        let refused: u32 = faults.values().sum();
-        println!(
-            "The same status, output and error text on {FAULTY_INPUTS} small inputs, of which {refused} are refused:"
-        );
-        let counts: Vec<String> = faults
-            .iter()
-            .map(|(fault, count)| format!("{fault} {count}"))
-            .collect();
-        println!("{}.\n", counts.join(", "));
+        Ok(faults)
+    }
+
+    /// Compares both on an input with more calls than a log takes, in which one key has two calls.
+    fn compare_full(&self) -> Answer<()> {
+        let input = self.write(|file| {
+            file.write_all(
+                b"alice 1.00 1.00\nbegin\nask 1 1 balance alice\nask 1 1 balance bob\n",
+            )?;
+            (0..LOG_CALLS).try_for_each(|_| file.write_all(b"balance alice\n"))
+        })?;
+        self.round(&input)?;
         Ok(())
+    }
+
+    /// Makes the file of an input.
+    fn write(&self, text: impl FnOnce(&mut BufWriter<File>) -> io::Result<()>) -> Answer<PathBuf> {
+        let input = self.folder.join("input.txt");
+        let mut file = BufWriter::new(File::create(&input)?);
+        text(&mut file)?;
+        file.flush()?;
+        Ok(input)
+    }
+
+    /// Runs the product, the plain program, and the plain program that remembers every line. All must
+    /// do the same.
+    fn round(&self, input: &Path) -> Answer<[Measure; 3]> {
+        let written = self.folder.join("product.txt");
+        let written_plain = self.folder.join("plain.txt");
+        let product = run(&self.product, &[], input, &written)?;
+        let beside = |words: &[&str]| -> Answer<Measure> {
+            let plain = run(&self.plain, words, input, &written_plain)?;
+            if product.told != plain.told || !same_bytes(&written, &written_plain)? {
+                let (input, told) = (input.display(), [&product.told, &plain.told]);
+                return Err(format!("they differ on {input}, and told {told:?}").into());
+            }
+            Ok(plain.measure)
+        };
+        let every_line = beside(&["every-line"])?;
+        Ok([product.measure, beside(&[])?, every_line])
     }
 
     /// Measures both on one workload, in turn, and prints a row of the table.
     fn compare_large(&self, calls: &str, workload: &Workload) -> Answer<()> {
-        let input = self.folder.join("input.txt");
-        let mut file = BufWriter::new(File::create(&input)?);
-        workload.write(&mut file)?;
-        file.flush()?;
-        let written = self.folder.join("product.txt");
-        let written_plain = self.folder.join("plain.txt");
+        let input = self.write(|file| workload.write(file))?;
         let mut product = Vec::new();
         let mut plain = Vec::new();
         let mut every_line = Vec::new();
         for _ in 0..RUNS {
-            product.push(run(&self.product, &[], &input, &written)?);
-            every_line.push(run(&self.plain, &["every-line"], &input, &written_plain)?);
-            check_same(&written, &written_plain, &input)?;
-            plain.push(run(&self.plain, &[], &input, &written_plain)?);
-            check_same(&written, &written_plain, &input)?;
+            let measures = self.round(&input)?;
+            product.push(measures[0]);
+            plain.push(measures[1]);
+            every_line.push(measures[2]);
         }
         print_row(
             calls,
@@ -107,26 +135,44 @@ impl Bench {
         );
         Ok(())
     }
+
+    /// Compares both without a measurement.
+    fn check(&self) -> Answer<()> {
+        let refused: u32 = self.compare_small(CHECKED_INPUTS)?.values().sum();
+        self.compare_full()?;
+        let (_, workload, customers, lines) = ROWS[0];
+        self.round(&self.write(|file| workload(SEED, customers, lines).write(file))?)?;
+        println!(
+            "run: the same status, output and error text on {CHECKED_INPUTS} small inputs, of which {refused} are \
+            refused, on one that is too long for a log, and on {lines} lines"
+        );
+        Ok(())
+    }
+
+    /// Compares and measures both.
+    fn measure(&self) -> Answer<()> {
+        let faults = self.compare_small(FAULTY_INPUTS)?;
+        self.compare_full()?;
+        print_faults(&faults);
+        print_head();
+        for (calls, workload, customers, lines) in ROWS {
+            self.compare_large(calls, &workload(SEED, customers, lines))?;
+        }
+        Ok(())
+    }
 }
 
-/// What a program does on an input, with the first line of its error text. Beneath it the product
-/// shows the line at fault.
+/// What a program does on an input. If it refuses it, the first line of its error text alone counts:
+/// beneath it the product shows the line at fault.
 fn output(program: &Path, input: &Path) -> io::Result<Output> {
     let mut ended = Command::new(program)
         .stdin(Stdio::from(File::open(input)?))
         .output()?;
-    if let Some(end) = ended.stderr.iter().position(|byte| *byte == b'\n') {
+    let line = ended.stderr.iter().position(|byte| *byte == b'\n');
+    if let (false, Some(end)) = (ended.status.success(), line) {
         ended.stderr.truncate(end + 1);
     }
     Ok(ended)
-}
-
-fn check_same(product: &Path, plain: &Path, input: &Path) -> Answer<()> {
-    if same_bytes(product, plain)? {
-        Ok(())
-    } else {
-        Err(format!("their outputs differ on {}", input.display()).into())
-    }
 }
 
 // In pieces: what this process holds in memory would count as the measured program's.
@@ -173,6 +219,21 @@ fn print_row(
     );
 }
 
+fn print_faults(faults: &BTreeMap<String, u32>) {
+    let refused: u32 = faults.values().sum();
+    println!(
+        "The same status, output and error text on {FAULTY_INPUTS} small inputs and on one that is too long for a log."
+    );
+    let counts: Vec<String> = faults
+        .iter()
+        .map(|(fault, count)| format!("{fault} {count}"))
+        .collect();
+    println!(
+        "Of the small ones {refused} are refused: {}.\n",
+        counts.join(", ")
+    );
+}
+
 fn print_head() {
     println!(
         "| calls | customers | lines | ms | ms, plain | ratio | ms, plain that remembers every line | ratio \
@@ -183,7 +244,13 @@ fn print_head() {
 
 fn main() -> Answer<()> {
     let words: Vec<String> = env::args().skip(1).collect();
+    let bench = |product: &str, plain: &str, folder: &str| Bench {
+        product: product.into(),
+        plain: plain.into(),
+        folder: folder.into(),
+    };
     match words.iter().map(String::as_str).collect::<Vec<_>>()[..] {
+        ["check", product, plain, folder] => bench(product, plain, folder).check()?,
         ["workload", seed, customers, lines] => {
             let workload = Workload::new(seed.parse()?, customers.parse()?, lines.parse()?);
             workload.write(&mut BufWriter::new(io::stdout().lock()))?;
@@ -198,18 +265,7 @@ fn main() -> Answer<()> {
                 .lock()
                 .write_all(&faulty::input(seed.parse()?))?;
         }
-        [product, plain, folder] => {
-            let bench = Bench {
-                product: product.into(),
-                plain: plain.into(),
-                folder: folder.into(),
-            };
-            bench.compare_small()?;
-            print_head();
-            for (calls, workload, customers, lines) in ROWS {
-                bench.compare_large(calls, &workload(SEED, customers, lines))?;
-            }
-        }
+        [product, plain, folder] => bench(product, plain, folder).measure()?,
         _ => {
             return Err(USAGE.into());
         }

@@ -1,7 +1,7 @@
-//! One run of a program: its time, and the most memory that it held.
+//! One run of a program: its time, the most memory that it held, and what it told.
 
 use std::fs::File;
-use std::io;
+use std::io::{self, Read};
 use std::path::Path;
 use std::process::{Command, Stdio};
 use std::time::{Duration, Instant};
@@ -26,6 +26,13 @@ impl Measure {
     }
 }
 
+/// A run that ended well.
+pub struct Ran {
+    pub measure: Measure,
+    /// The error text.
+    pub told: String,
+}
+
 // `struct rusage` of Linux on x86-64: two times of two words each, then the peak of resident memory
 // in KiB.
 #[repr(C)]
@@ -42,14 +49,19 @@ unsafe extern "C" {
 
 /// Runs a program with these words from the file `input` to the file `output`, which it must end
 /// with status 0.
-pub fn run(program: &Path, words: &[&str], input: &Path, output: &Path) -> io::Result<Measure> {
+pub fn run(program: &Path, words: &[&str], input: &Path, output: &Path) -> io::Result<Ran> {
     let mut command = Command::new(program);
     command
         .args(words)
         .stdin(Stdio::from(File::open(input)?))
-        .stdout(Stdio::from(File::create(output)?));
+        .stdout(Stdio::from(File::create(output)?))
+        .stderr(Stdio::piped());
     let start = Instant::now();
-    let child = command.spawn()?;
+    let mut child = command.spawn()?;
+    let mut told = String::new();
+    if let Some(stderr) = &mut child.stderr {
+        stderr.read_to_string(&mut told)?;
+    }
     let mut status = 0;
     let mut usage = Usage::default();
     // Safety: both point to what the call writes, and nobody else waits for this child.
@@ -60,12 +72,13 @@ pub fn run(program: &Path, words: &[&str], input: &Path, output: &Path) -> io::R
     }
     if status != 0 {
         return Err(io::Error::other(format!(
-            "{} ended with status {status}",
+            "{} ended with status {status}: {told}",
             program.display()
         )));
     }
-    Ok(Measure {
+    let measure = Measure {
         time,
         peak_kib: usage.peak_kib,
-    })
+    };
+    Ok(Ran { measure, told })
 }

@@ -2,7 +2,7 @@
 ghost use Rattle.sb_amount.specs.Limit.{IsWithinLimit};
 
 use sb_amount::Cents;
-use sb_rows::{Name, Opening, read_opening};
+use sb_rows::{Columns, Name, Opening, read_opening};
 use std::alloc::Global;
 use std::process::Abort;
 
@@ -16,15 +16,15 @@ pub(crate) fn expect_bytes(rt: &impl Abort, found: &[u8], wanted: &[u8], case: &
     assert!(rt; found == wanted, "{case}");
 }
 
-/// Checks the text of a fault.
-pub(crate) fn expect_shown(rt: &impl Abort, alloc: Global, fault: &impl ToString, words: &str) {
-    let shown = fault.to_string(alloc).expect(rt, "memory for a text");
-    expect_bytes(rt, shown.as_bytes(), words.as_bytes(), words);
-}
-
-/// Checks the amounts of a case.
-pub(crate) fn expect_amounts(rt: &impl Abort, found: &[i64], wanted: &[i64], case: &str) {
-    assert!(rt; found == wanted, "{case}");
+/// Checks the savings and the checking balances of columns.
+pub(crate) fn expect_columns(
+    rt: &impl Abort,
+    columns: &Columns,
+    savings: &[i64],
+    checking: &[i64],
+) {
+    assert!(rt; columns.savings() == savings, "savings");
+    assert!(rt; columns.checking() == checking, "checking balances");
 }
 
 pub(crate) fn name(rt: &impl Abort, text: &str) -> Name {

@@ -12,3 +12,5 @@ mod calls;
 mod fixtures;
 #[cfg(test)]
 mod rows;
+#[cfg(test)]
+mod words;

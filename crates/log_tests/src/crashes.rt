@@ -1,8 +1,8 @@
 //! What is left after a crash, and what replicas get before one.
-use sb_calls::{Call, Reply};
+use sb_calls::Call;
 use sb_frames::Frame;
 use sb_rows::Name;
-use sb_sequencer::{AckNote, AnswerNote, AskFault, HaveNote, Numbered};
+use sb_sequencer::{AckNote, Numbered};
 use schedule_sequencer::DurableSequencer;
 use std::process::Abort;
 
@@ -70,18 +70,6 @@ fn gets(rt: &impl Abort, log: &DurableSequencer, replica: u8, first: u64, letter
 }
 
 #[test]
-fn an_append_is_answered(rt: HostRuntime) {
-    let mut log = opened(&rt);
-    has(&rt, &log, b"", 0);
-    append_all(&rt, &mut log, b"abc");
-    let again = log.append(CLIENT, u32::from(b'b'), &balance(&rt, b'b'));
-    assert!(rt; again == Ok(Numbered::Repeat(2)), "the same call");
-    let other = log.append(CLIENT, u32::from(b'b'), &balance(&rt, b'c'));
-    assert!(rt; other == Err(AskFault::Mismatch(2)), "another call");
-    has(&rt, &log, b"abc", 0);
-}
-
-#[test]
 fn only_what_is_synced_is_sent(rt: HostRuntime) {
     let mut log = opened(&rt);
     append_all(&rt, &mut log, b"abcd");
@@ -105,19 +93,6 @@ fn only_what_is_synced_is_sent(rt: HostRuntime) {
 }
 
 #[test]
-fn at_most_16_are_sent(rt: HostRuntime) {
-    let mut log = opened(&rt);
-    append_all(&rt, &mut log, b"abcdefghijklmnopqr");
-    log.sync();
-    append_all(&rt, &mut log, b"stu");
-    gets(&rt, &log, 0, 1, b"abcdefghijklmnop");
-    assert!(rt; log.on_ack(0, 2) == AckNote::Recorded, "the first two");
-    gets(&rt, &log, 0, 3, b"cdefghijklmnopqr");
-    assert!(rt; log.on_ack(0, 3) == AckNote::Recorded, "the first three");
-    gets(&rt, &log, 0, 4, b"defghijklmnopqr");
-}
-
-#[test]
 fn a_crash_leaves_these_calls(rt: HostRuntime) {
     for kept in 0..10 {
         let mut log = opened(&rt);
@@ -132,59 +107,4 @@ fn a_crash_leaves_these_calls(rt: HostRuntime) {
         assert!(rt; log.crash(0).is_ok(), "memory");
         has(&rt, &log, &b"abcdefg"[..left as usize], left);
     }
-}
-
-#[test]
-fn the_key_of_a_lost_ask_is_new(rt: HostRuntime) {
-    let mut log = opened(&rt);
-    append_all(&rt, &mut log, b"ab");
-    log.sync();
-    append_all(&rt, &mut log, b"cd");
-    assert!(rt; log.crash(3).is_ok(), "memory");
-    let kept = log.append(CLIENT, u32::from(b'c'), &balance(&rt, b'c'));
-    assert!(rt; kept == Ok(Numbered::Repeat(3)), "c is there still");
-    append_all(&rt, &mut log, b"ed");
-    has(&rt, &log, b"abced", 3);
-}
-
-#[test]
-fn a_crash_leaves_no_report(rt: HostRuntime) {
-    let mut log = opened(&rt);
-    append_all(&rt, &mut log, b"ab");
-    assert!(rt;
-        log.on_answer(1, Reply::Done) == AnswerNote::Unknown,
-        "not synced"
-    );
-    log.sync();
-    assert!(rt;
-        log.on_answer(1, Reply::Done) == AnswerNote::Kept,
-        "the first answer"
-    );
-    assert!(rt;
-        log.on_answer(1, Reply::Done) == AnswerNote::Repeat,
-        "the same answer"
-    );
-    assert!(rt;
-        log.answer_of(CLIENT, u32::from(b'a')) == Some(Reply::Done),
-        "it is kept"
-    );
-    assert!(rt;
-        log.answer_of(CLIENT, u32::from(b'b')).is_none(),
-        "no answer"
-    );
-    assert!(rt; log.on_ack(0, 1) == AckNote::Recorded, "a synced length");
-    assert!(rt; log.on_have(1, 2) == HaveNote::Recorded, "a synced length");
-    assert!(rt;
-        log.on_have(1, 3) == HaveNote::Odd,
-        "a length above the synced one"
-    );
-    assert!(rt; log.donor(0) == Some((1, 2)), "the other replica");
-    assert!(rt; log.crash(0).is_ok(), "memory");
-    has(&rt, &log, b"ab", 2);
-    assert!(rt;
-        log.answer_of(CLIENT, u32::from(b'a')).is_none(),
-        "no answer is left"
-    );
-    assert!(rt; log.donor(0).is_none(), "no checkpoint is known");
-    gets(&rt, &log, 0, 1, b"ab");
 }

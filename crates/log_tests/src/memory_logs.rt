@@ -86,19 +86,3 @@ fn a_crash_leaves_a_beginning(rt: HostRuntime) {
     log.sync(&asks);
     leaves(&rt, alloc, &log, &asks, 0, 3);
 }
-
-#[test]
-fn a_log_goes_on_after_a_crash(rt: HostRuntime) {
-    let alloc = rt.alloc();
-    let (mut log, mut asks) = opened(&rt, alloc);
-    leaves(&rt, alloc, &log, &asks, 9, 0);
-    put(&rt, &mut log, &mut asks, 1);
-    leaves(&rt, alloc, &log, &asks, 0, 0);
-    put(&rt, &mut log, &mut asks, 5);
-    let (mut log, mut asks) = leaves(&rt, alloc, &log, &asks, 1, 1);
-    put(&rt, &mut log, &mut asks, 2);
-    put(&rt, &mut log, &mut asks, 3);
-    leaves(&rt, alloc, &log, &asks, 0, 1);
-    leaves(&rt, alloc, &log, &asks, 2, 2);
-    leaves(&rt, alloc, &log, &asks, 9, 3);
-}

@@ -172,31 +172,6 @@ fn a_crash_leaves_whole_bodies_and_the_log_goes_on(rt: HostRuntime) {
     }
 }
 
-// Where the record of a byte begins.
-fn start_of(at: usize) -> usize {
-    ENDS.iter()
-        .rev()
-        .find(|end| **end <= at)
-        .copied()
-        .unwrap_or(0)
-}
-
-#[test]
-fn each_altered_bit_is_damage(rt: HostRuntime) {
-    let alloc = rt.alloc();
-    for at in 0..227usize {
-        for bit in 0..8u32 {
-            let whole = logged(&rt, alloc, 3);
-            let mut bytes = Vec::from_slice(alloc, whole.bytes()).expect(&rt, "memory");
-            if let Some(byte) = bytes.get_mut(at) {
-                *byte ^= 1u8.wrapping_shl(bit);
-            }
-            let start = start_of(at) as u64;
-            is_damaged(&rt, alloc, &bytes, start, 227u64.wrapping_sub(start));
-        }
-    }
-}
-
 // So many zeros behind the records are cut off. If a byte follows that is none, they are damage, unless they are
 // too few for a record.
 fn cuts_zeros(rt: &impl Abort, alloc: Global, zeros: usize) {

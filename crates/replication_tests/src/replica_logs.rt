@@ -6,10 +6,6 @@ use sb_calls::{LOG_CALLS, Op, Reply};
 use sb_replica_log::{Offered, ReplicaLog};
 use std::process::Abort;
 
-mod cuts;
-mod early_entries;
-mod entries;
-
 // A step on a log, with its answer.
 #[derive(Clone, Copy)]
 enum Step {
@@ -18,20 +14,12 @@ enum Step {
     Offer(u64, Offered, u64),
     // The next entries up to this number, of the same call, are taken.
     OfferUpTo(u64),
-    // An entry of another call without cowns.
-    OfferSameCustomer(u64, Offered),
     // Advances to the op that is held for the next number, with this answer and this length of the
     // log then.
     Advance(Option<Offered>, u64),
     // The first ready behaviour has this number; it is run and finished.
     Run(u64),
     Cut(Result<u64, CutFault>),
-    CutLength(Option<u64>),
-    // Whether the columns of the cut are there.
-    CutSettled(bool),
-    DropCut,
-    // Whether the columns after all entries are there.
-    Settled(bool),
     // These are the checking balances of the three and nothing is unfinished, or something is.
     Checking(Option<[i64; 3]>),
     // Makes room for this many entries.
@@ -86,28 +74,12 @@ fn plays_one(rt: &impl Abort, log: &mut ReplicaLog, position: usize, step: &Step
     match *step {
         Step::Offer(number, answer, length) => offers(rt, log, number, answer, length),
         Step::OfferUpTo(last) => offers_up_to(rt, log, last),
-        Step::OfferSameCustomer(number, answer) => {
-            let answered = log.offer_entry(number, Op::SameCustomer);
-            is_so(rt, position, answered == Ok(answer));
-        }
         Step::Advance(answer, length) => {
             is_so(rt, position, log.advance() == Ok(answer));
             is_so(rt, position, log.length() == length);
         }
         Step::Run(number) => runs(rt, log, number),
         Step::Cut(answer) => is_so(rt, position, log.cut() == answer),
-        Step::CutLength(length) => is_so(rt, position, log.board().cut_length() == length),
-        Step::CutSettled(settled) => {
-            is_so(rt, position, log.board().cut_columns().is_some() == settled);
-        }
-        Step::DropCut => log.drop_cut(),
-        Step::Settled(settled) => {
-            is_so(
-                rt,
-                position,
-                log.board().final_columns().is_some() == settled,
-            );
-        }
         Step::Checking(checking) => has_checking(rt, log, checking),
         Step::Reserve(count) => is_so(rt, position, log.reserve(count).is_ok()),
     }
@@ -119,4 +91,60 @@ fn plays_after(rt: &(impl Abort + AllocGlobal), entries: usize, steps: &[Step]) 
     for (position, step) in steps.iter().enumerate() {
         plays_one(rt, &mut log, position, step);
     }
+}
+
+#[test]
+fn entries_that_come_early_are_held(rt: HostRuntime) {
+    plays_after(
+        &rt,
+        0,
+        &[
+            Step::Reserve(10),
+            Step::Offer(65, Offered::Gap(0), 0),
+            Step::Offer(64, Offered::Held(64), 0),
+            Step::Offer(2, Offered::Held(2), 0),
+            Step::Advance(None, 0),
+            Step::Offer(1, Offered::Next, 1),
+            Step::Offer(1, Offered::Repeat, 1),
+            Step::Offer(65, Offered::Held(65), 1),
+            Step::Cut(Ok(1)),
+            Step::Advance(Some(Offered::Next), 2),
+            Step::Cut(Err(CutFault::Pending(1))),
+            Step::Checking(None),
+            Step::Run(1),
+            Step::Run(2),
+            Step::Checking(Some([5_000, 2_000, 0])),
+        ],
+    );
+}
+
+#[test]
+fn entries_wait_while_too_many_are_unfinished(rt: HostRuntime) {
+    plays_after(
+        &rt,
+        0,
+        &[
+            Step::OfferUpTo(1_024),
+            Step::Offer(1_025, Offered::Busy(1_024), 1_024),
+            Step::Offer(1_026, Offered::Held(1_026), 1_024),
+            Step::Run(1),
+            Step::Offer(1_025, Offered::Next, 1_025),
+            Step::Advance(Some(Offered::Busy(1_025)), 1_025),
+        ],
+    );
+}
+
+#[test]
+fn no_entry_comes_after_the_millionth(rt: HostRuntime) {
+    plays_after(
+        &rt,
+        999_998,
+        &[
+            Step::Offer(1_000_001, Offered::Gap(999_998), 999_998),
+            Step::Offer(1_000_000, Offered::Held(1_000_000), 999_998),
+            Step::Offer(999_999, Offered::Next, 999_999),
+            Step::Advance(Some(Offered::Next), 1_000_000),
+            Step::Offer(1_000_001, Offered::Gap(1_000_000), 1_000_000),
+        ],
+    );
 }

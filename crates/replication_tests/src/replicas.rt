@@ -5,8 +5,8 @@ use crate::steps::is_so;
 use cown_board::{CutFault, Done, Job, Runs};
 use sb_calls::{Op, Reply, read_call};
 use sb_checkpoint::{CheckpointFault, CheckpointStore, How, MemoryStore};
-use sb_frames::{Frame, FrameFault, encode};
-use sb_replica::{AdoptFault, Adopted, Heard, MarkFault, Replica, ReplicaFault, RestartFault};
+use sb_frames::{Frame, encode};
+use sb_replica::{AdoptFault, Adopted, Heard, MarkFault, Replica, RestartFault};
 use std::process::Abort;
 
 mod cuts;
@@ -31,8 +31,6 @@ enum Step {
     ReceiveEntry(u64, &'static str, Heard),
     // The next entries up to this number, each with this call, are accepted.
     AcceptUpTo(u64, &'static str),
-    // Receives these bytes, with this answer.
-    ReceiveBytes(&'static [u8], Result<Heard, ReplicaFault>),
     // Advances to the entry that is held for the next number, with this answer.
     Advance(Option<Heard>),
     // The first ready behaviour has this number, and is out from now on.
@@ -60,8 +58,6 @@ enum Step {
     Adopt(&'static [&'static str], Result<Adopted, AdoptFault>),
     // The state that the replica has: its length and its fields, or none.
     GivesState(Option<(u64, &'static [&'static str])>),
-    // Why it can't give a state, or the length of one.
-    GivesNoState(RestartFault),
     // The frame with the length of its state.
     HaveFrame(u64),
     // The frames with its length, and with its reply to a number.
@@ -191,11 +187,6 @@ fn sends_have<S: CheckpointStore>(rt: &impl Abort, replica: &mut Replica<S>, len
     assert!(rt; frame == Frame::Have { replica: 1, length });
 }
 
-fn gives_no_state(rt: &impl Abort, replica: &mut Replica<MemoryStore>, fault: RestartFault) {
-    assert!(rt; replica.kept_state().err() == Some(fault));
-    assert!(rt; replica.have_frame().err() == Some(fault));
-}
-
 fn plays_one(rt: &(impl Abort + AllocGlobal), node: &mut Node, position: usize, step: &Step) {
     match *step {
         Step::ReceiveEntry(number, line, heard) => receives(
@@ -206,9 +197,6 @@ fn plays_one(rt: &(impl Abort + AllocGlobal), node: &mut Node, position: usize, 
             heard,
         ),
         Step::AcceptUpTo(last, line) => accepts_up_to(rt, &mut node.replica, last, line),
-        Step::ReceiveBytes(bytes, answer) => {
-            is_so(rt, position, node.replica.on_frame(bytes) == answer);
-        }
         Step::Advance(heard) => is_so(rt, position, node.replica.advance() == Ok(heard)),
         Step::Take(number) => takes(rt, node, number),
         Step::Finish(reply) => finishes(rt, node, reply),
@@ -232,7 +220,6 @@ fn plays_one(rt: &(impl Abort + AllocGlobal), node: &mut Node, position: usize, 
             );
         }
         Step::GivesState(state) => gives_state(rt, &mut node.replica, state),
-        Step::GivesNoState(fault) => gives_no_state(rt, &mut node.replica, fault),
         Step::HaveFrame(length) => sends_have(rt, &mut node.replica, length),
         Step::AckFrame(frame) => is_so(rt, position, node.replica.ack_frame() == frame),
         Step::AnswerFrame(number, frame) => {

@@ -8,7 +8,7 @@ use std::process::Abort;
 // Checks the text of a fault.
 fn has_text(rt: &(impl Abort + AllocGlobal), fault: impl Display + Drop, words: &str) {
     let text = fault.to_string(rt.alloc()).expect(rt, "memory for a text");
-    assert!(rt; text.as_str() == words);
+    assert!(rt; text.as_str() == words, "{words}");
 }
 
 #[test]
@@ -30,72 +30,24 @@ fn words_of_a_checkpoints_faults(rt: HostRuntime) {
 }
 
 #[test]
-fn words_of_a_stores_faults(rt: HostRuntime) {
-    for (fault, words) in [
-        (StoreFault::Device, "device fault"),
-        (StoreFault::OutOfMemory, "out of memory"),
-    ] {
-        has_text(&rt, fault, words);
-    }
-}
-
-#[test]
 fn words_of_a_replicas_faults(rt: HostRuntime) {
-    for (fault, words) in [
-        (
-            ReplicaFault::BadFrame(FrameFault::Short),
-            "bad frame: short",
-        ),
-        (ReplicaFault::OutOfMemory, "out of memory"),
-    ] {
-        has_text(&rt, fault, words);
-    }
-}
-
-#[test]
-fn words_of_a_streams_faults(rt: HostRuntime) {
-    for (fault, words) in [
-        (ReceiveFault::Stream(StreamFault::Failed), "failed"),
-        (ReceiveFault::OutOfMemory, "out of memory"),
-    ] {
-        has_text(&rt, fault, words);
-    }
-}
-
-#[test]
-fn words_of_a_marks_faults(rt: HostRuntime) {
-    for (fault, words) in [
-        (MarkFault::Busy, "busy"),
-        (MarkFault::Device, "device fault"),
-        (MarkFault::OutOfMemory, "out of memory"),
-    ] {
-        has_text(&rt, fault, words);
-    }
-}
-
-#[test]
-fn words_of_a_restarts_faults(rt: HostRuntime) {
-    for (fault, words) in [
-        (RestartFault::Device, "device fault"),
-        (
-            RestartFault::BadCheckpoint(CheckpointFault::Long),
-            "bad checkpoint: long",
-        ),
-        (RestartFault::OutOfMemory, "out of memory"),
-    ] {
-        has_text(&rt, fault, words);
-    }
-}
-
-#[test]
-fn words_of_an_adoptions_faults(rt: HostRuntime) {
-    for (fault, words) in [
-        (
-            AdoptFault::BadCheckpoint(CheckpointFault::WrongTotal),
-            "bad checkpoint: wrong total",
-        ),
-        (AdoptFault::OutOfMemory, "out of memory"),
-    ] {
-        has_text(&rt, fault, words);
-    }
+    let (short, long) = (FrameFault::Short, CheckpointFault::Long);
+    has_text(&rt, StoreFault::Device, "device fault");
+    has_text(&rt, StoreFault::OutOfMemory, "out of memory");
+    has_text(&rt, ReplicaFault::BadFrame(short), "bad frame: short");
+    has_text(&rt, ReplicaFault::OutOfMemory, "out of memory");
+    has_text(&rt, ReceiveFault::Stream(StreamFault::Failed), "failed");
+    has_text(&rt, ReceiveFault::OutOfMemory, "out of memory");
+    has_text(&rt, MarkFault::Busy, "busy");
+    has_text(&rt, MarkFault::Device, "device fault");
+    has_text(&rt, MarkFault::OutOfMemory, "out of memory");
+    has_text(&rt, RestartFault::Device, "device fault");
+    has_text(
+        &rt,
+        RestartFault::BadCheckpoint(long),
+        "bad checkpoint: long",
+    );
+    has_text(&rt, RestartFault::OutOfMemory, "out of memory");
+    has_text(&rt, AdoptFault::BadCheckpoint(long), "bad checkpoint: long");
+    has_text(&rt, AdoptFault::OutOfMemory, "out of memory");
 }

@@ -2,7 +2,7 @@
 ghost use Rattle.std.specs.Prelude.{◌≡◌, ◌<◌, ◌*◌, length, IfSome};
 ghost use Rattle.sb_calls.specs.Cowns.{contents_of};
 
-use cown_board::{Board, CutFault, Done, Job, OPEN_BEHAVIOURS, SubmitFault};
+use cown_board::{Board, Done, Job, OPEN_BEHAVIOURS, SubmitFault};
 use cown_workers::Crew;
 use sb_calls::{Behaviour, Call, LOG_CALLS, Op, Reply, read_call, resolve};
 use sb_rows::{Columns, Directory, Opening, read_opening};
@@ -70,8 +70,6 @@ pub(crate) enum Step<'a> {
     Finish(u64, Reply),
     // The first ready behaviour has this number; it is handed out, executed and taken back.
     Run(u64, Reply),
-    // Something is unfinished, so there are no columns.
-    NoColumns,
 }
 
 #[derive(Drop)]
@@ -132,7 +130,6 @@ impl Bank {
                 let done = self.carry_out(rt, number);
                 self.finishes(rt, done, reply);
             }
-            Step::NoColumns => has_no_columns(rt, &self.board),
         }
     }
 
@@ -152,7 +149,7 @@ impl Bank {
     }
 
     // Executes the job that is out with this number.
-    pub(crate) fn carry_out(&mut self, rt: &impl Abort, number: u64) -> Done<Op> {
+    fn carry_out(&mut self, rt: &impl Abort, number: u64) -> Done<Op> {
         let position = self.position_of(number).expect(rt, "a job with the number");
         self.out.remove(position).run()
     }
@@ -164,29 +161,12 @@ impl Bank {
         self.out.iter().position(|job| job.number() == number)
     }
 
-    // A result is taken back; its number has no reply before that.
-    pub(crate) fn finishes(&mut self, rt: &impl Abort, done: Done<Op>, reply: Reply) {
+    // A result is taken back.
+    fn finishes(&mut self, rt: &impl Abort, done: Done<Op>, reply: Reply) {
         let number = done.number();
-        assert!(rt; self.reply(number).is_none(), "{number}");
-        assert!(rt; self.finish(done) == Ok(reply), "{number}");
-        assert!(rt; self.reply(number) == Some(reply), "{number}");
-    }
-
-    // A result is given back, and nothing that can be read from the board changes.
-    pub(crate) fn gives_back(&mut self, rt: &impl Abort, done: Done<Op>, number: u64) {
-        let before = self.visible_state();
-        assert!(rt; self.finish(done) == Err(number), "{number}");
-        assert!(rt; self.visible_state() == before, "{number}");
-    }
-
-    // The reply, or the number of the result that is given back.
-    fn finish(&mut self, done: Done<Op>) -> Result<Reply, u64> {
-        self.board.finish(done).map_err(|back| back.number())
-    }
-
-    fn visible_state(&self) -> (u64, bool, Option<Reply>, Option<Reply>) {
-        let board = &self.board;
-        (board.length(), board.idle(), board.reply(1), board.reply(2))
+        let found = self.board.finish(done).map_err(|back| back.number());
+        assert!(rt; found == Ok(reply), "{number}");
+        assert!(rt; self.board.reply(number) == Some(reply), "{number}");
     }
 
     // Executes the last of the ready ones; there are at most three.
@@ -213,10 +193,6 @@ impl Bank {
         self.board.idle()
     }
 
-    pub(crate) fn reply(&self, number: u64) -> Option<Reply> {
-        self.board.reply(number)
-    }
-
     // Checks that nothing is unfinished, and that these are the balances.
     pub(crate) fn ends_with(&self, rt: &impl Abort, savings: [i64; 3], checking: [i64; 3]) {
         assert!(rt; self.idle());
@@ -226,18 +202,8 @@ impl Bank {
     // Makes a cut, at the board's length.
     pub(crate) fn cuts(&mut self, rt: &impl Abort) {
         let length = self.length();
-        assert!(rt; self.cut() == Ok(length));
+        assert!(rt; self.board.cut() == Ok(length));
         assert!(rt; self.board.cut_length() == Some(length));
-    }
-
-    pub(crate) fn cut(&mut self) -> Result<u64, CutFault> {
-        self.board.cut()
-    }
-
-    // Drops the cut; there is none then.
-    pub(crate) fn drops_its_cut(&mut self, rt: &impl Abort) {
-        self.board.drop_cut();
-        assert!(rt; self.board.cut_length().is_none());
     }
 
     // The cut has no columns yet.
@@ -283,12 +249,6 @@ pub(crate) fn copies_its_columns(rt: &impl Abort, board: &Board<Op>) {
         Ok(Some(columns)) => assert!(rt; are_same(&columns, settled)),
         _ => panic!(rt; "no columns"),
     }
-}
-
-// Something is unfinished, so there are no columns.
-pub(crate) fn has_no_columns<B: Behaviour>(rt: &impl Abort, board: &Board<B>) {
-    assert!(rt; !board.idle());
-    assert!(rt; board.columns().expect(rt, "memory").is_none());
 }
 
 // Gives each ready job to a crew, and takes nothing in.

@@ -1,8 +1,7 @@
 //! Cuts of a board.
-use crate::bank::{Bank, Step};
-use cown_board::CutFault;
+use crate::bank::Bank;
 use sb_amount::Cents;
-use sb_calls::{Call, Reply};
+use sb_calls::Call;
 use sb_rows::Name;
 use std::process::Abort;
 
@@ -58,30 +57,4 @@ fn settles(rt: &impl Abort, bank: &mut Bank, alone: &Bank) {
     }
     assert!(rt; bank.idle());
     bank.has_cut_of(rt, alone);
-}
-
-#[test]
-fn one_cut_is_there_at_a_time(rt: HostRuntime) {
-    let mut bank = Bank::open(&rt, rt.alloc());
-    bank.has_no_cut_columns(&rt);
-    bank.cuts(&rt);
-    submit_deposits(&rt, &mut bank, 1, 1);
-    assert!(rt; bank.cut() == Err(CutFault::Pending(0)));
-    bank.drops_its_cut(&rt);
-    bank.cuts(&rt);
-    bank.has_no_cut_columns(&rt);
-}
-
-#[test]
-fn a_number_without_cowns_keeps_a_cut_back(rt: HostRuntime) {
-    let mut alone = Bank::open(&rt, rt.alloc());
-    run_deposits(&rt, &mut alone, 1);
-    let mut bank = Bank::open(&rt, rt.alloc());
-    submit_deposits(&rt, &mut bank, 1, 1);
-    bank.plays(&rt, &[Step::Submit(2, "balance zed")]);
-    bank.cuts(&rt);
-    bank.plays(&rt, &[Step::Run(1, Reply::Done)]);
-    bank.has_no_cut_columns(&rt);
-    bank.plays(&rt, &[Step::Run(2, Reply::NoCustomer)]);
-    bank.has_cut_of(&rt, &alone);
 }

@@ -21,10 +21,6 @@ mod linking;
 #[cfg(test)]
 mod looks;
 #[cfg(test)]
-mod offers;
-#[cfg(test)]
-mod owners;
-#[cfg(test)]
 mod pair;
 #[cfg(test)]
 mod picks;

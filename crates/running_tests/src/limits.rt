@@ -32,37 +32,6 @@ fn a_thousand_and_twenty_four_may_be_unfinished(rt: HostRuntime) {
     assert!(rt; bank.length() == 1_025);
 }
 
-// A board with these earlier replies.
-fn open_after(rt: &impl Abort, alloc: Global, earlier: &[Reply]) -> Box<Bank> {
-    let replies = Vec::from_slice(alloc, earlier).expect(rt, "memory");
-    Bank::open_with(rt, alloc, OPENING, replies)
-}
-
-#[test]
-fn numbers_go_on_after_the_earlier_replies(rt: HostRuntime) {
-    let mut bank = open_after(&rt, rt.alloc(), &[Reply::Done, Reply::Negative]);
-    assert!(rt; bank.length() == 2);
-    assert!(rt; bank.idle());
-    bank.plays(&rt, &[Step::Submit(3, "balance bob")]);
-    replies_are(&rt, &bank, None);
-    bank.plays(&rt, &[Step::Run(3, Reply::Shown(2_000))]);
-    replies_are(&rt, &bank, Some(Reply::Shown(2_000)));
-}
-
-// After two earlier replies; this is the third.
-fn replies_are(rt: &impl Abort, bank: &Bank, third: Option<Reply>) {
-    for (number, reply) in [
-        (0, None),
-        (1, Some(Reply::Done)),
-        (2, Some(Reply::Negative)),
-        (3, third),
-        (4, None),
-        (u64::MAX, None),
-    ] {
-        assert!(rt; bank.reply(number) == reply, "{number}");
-    }
-}
-
 // A board with this many earlier replies.
 fn open_after_many(rt: &impl Abort, alloc: Global, numbers: usize) -> Box<Bank> {
     let replies = earlier_replies(rt, alloc, numbers);

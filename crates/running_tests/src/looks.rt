@@ -2,7 +2,7 @@
 ghost use Rattle.std.specs.Prelude.{◌≡◌, ◌+◌, ◌<◌, length};
 ghost use Rattle.sb_calls.specs.Cowns.{contents_of};
 
-use crate::bank::{OPENING, board_of, has_no_columns, open_board};
+use crate::bank::{OPENING, board_of, open_board};
 use arrayvec::ArrayVec;
 use cown_board::{Board, Done};
 use sb_calls::{Behaviour, Cown, Reply};
@@ -93,7 +93,8 @@ fn what_a_board_cannot_run_it_hands_out_in_order(rt: HostRuntime) {
     takes_none(&rt, &mut board, 0);
     assert!(rt; board.length() == 4);
     assert!(rt; board.reply(1).is_none());
-    has_no_columns(&rt, &board);
+    assert!(rt; !board.idle());
+    assert!(rt; board.columns().expect(&rt, "memory").is_none());
 }
 
 // Compiles only while a board needn't be able to run what it hands out.

@@ -17,16 +17,6 @@ fn two_workers_pick_in_turn(rt: HostRuntime) {
 }
 
 #[test]
-fn what_nobody_picked_is_left_in_order(rt: HostRuntime) {
-    let mut pair = Pair::new(&rt, rt.alloc());
-    pair.offers_jobs(&rt, rt.alloc(), 5);
-    pair.second_picks(&rt, 1);
-    pair.first_picks(&rt, 2);
-    let left = close(&rt, rt.alloc(), pair);
-    assert!(rt; are_jobs(&left, &[3, 4, 5]));
-}
-
-#[test]
 fn a_thousand_and_forty_may_lie_there(rt: HostRuntime) {
     let mut pair = Pair::new(&rt, rt.alloc());
     offers_one_more_than_fits(&rt, rt.alloc(), &mut pair);

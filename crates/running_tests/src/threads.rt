@@ -75,12 +75,8 @@ fn drain_as_one_does<R: Threads + Wait + Clock + Sync + Abort>(
 }
 
 #[test]
-fn two_workers_drain_a_board(rt: HostRuntime) {
+fn workers_drain_what_is_ready_and_what_waits(rt: HostRuntime) {
     drain_as_one_does(&rt, rt.alloc(), 2, &LINES);
-}
-
-#[test]
-fn sixteen_workers_drain_what_is_ready_and_what_waits(rt: HostRuntime) {
     drain_as_one_does(&rt, rt.alloc(), 16, &["balance zed"; OPEN_BEHAVIOURS]);
     // Each waits for the one before it, and brings bob a cent.
     drain_as_one_does(&rt, rt.alloc(), 16, &["deposit bob 0.01"; OPEN_BEHAVIOURS]);
@@ -123,19 +119,13 @@ fn a_gate_is_called_before_and_after_each_job(rt: HostRuntime) {
     assert!(rt; gate.called_in_order());
 }
 
-#[test]
-fn a_crew_that_is_given_nothing_ends(rt: HostRuntime) {
-    assert!(rt; with_crew(&rt, rt.alloc(), 1, &OpenGate, |_| 7) == Ok(7));
-    assert!(rt; with_crew(&rt, rt.alloc(), 16, &OpenGate, |_| 8) == Ok(8));
-}
-
 // Nobody can let it go, since it isn't `Drop`. So a crew that calls its closure has to hand over the
 // answer, and can't end with a fault.
 struct KeptAnswer(u64);
 
 #[test]
 fn an_answer_that_nobody_can_let_go_comes_out(rt: HostRuntime) {
-    match with_crew(&rt, rt.alloc(), 1, &OpenGate, |_| KeptAnswer(7)) {
+    match with_crew(&rt, rt.alloc(), 16, &OpenGate, |_| KeptAnswer(7)) {
         Ok(KeptAnswer(number)) => assert!(rt; number == 7),
         Err(_) => panic!(rt; "no crew"),
     }

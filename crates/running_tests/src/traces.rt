@@ -5,10 +5,9 @@ ghost use Rattle.cown_workers.specs.Draining.{CrewStep, PreservesLog, IsDrained,
 ghost use Rattle.cown_workers.specs.Traces.{TracesSteps};
 
 use crate::bank::board_of;
-use crate::crews::{LastFirstCrew, OneJobCrew, StuckCrew};
-use cown_board::{Board, Runs};
+use crate::crews::{OneJobCrew, StuckCrew};
+use cown_board::Runs;
 use cown_workers::{Crew, CrewGone, InlineCrew, Notice, Traced, drain, notices_of_exchanges};
-use sb_calls::Op;
 use std::alloc::Global;
 use std::process::Abort;
 
@@ -60,38 +59,4 @@ fn what_a_crew_does_is_noted(rt: HostRuntime) {
     let gone = [Notice::Given(1), Notice::Back(3)];
     let ended = Err(CrewGone);
     are_noted(&rt, rt.alloc(), StuckCrew::after(0), &LINES, ended, &gone);
-}
-
-// This crew keeps each job that it is given, or hands each back. Either way the 65th comes back;
-// neither that nor what is handed over later is noted.
-fn notes_no_more_than_64<C: Crew + Drop>(rt: &impl Abort, alloc: Global, crew: C, keeps: bool) {
-    let mut board = board_of(rt, alloc, &["balance zed"; 66]);
-    let mut traced = Traced::new(crew);
-    for _ in 0..64 {
-        gives(rt, &mut board, &mut traced, keeps);
-    }
-    let last = if keeps {
-        Notice::Given(64)
-    } else {
-        Notice::Back(64)
-    };
-    for _ in 0..2 {
-        assert!(rt; traced.notices().len() == 64);
-        assert!(rt; traced.notices().last() == Some(&last));
-        gives(rt, &mut board, &mut traced, false);
-        assert!(rt; traced.next().is_some() == keeps);
-    }
-}
-
-// Gives the first ready job to a crew, which keeps it or hands it back.
-fn gives(rt: &impl Abort, board: &mut Board<Op>, crew: &mut impl Crew, keeps: bool) {
-    let job = board.take_at(0).expect(rt, "a ready one");
-    assert!(rt; crew.give(job).is_ok() == keeps);
-}
-
-#[test]
-fn a_full_trace_hands_each_job_back(rt: HostRuntime) {
-    notes_no_more_than_64(&rt, rt.alloc(), InlineCrew, false);
-    let pile = LastFirstCrew::of(rt.alloc(), 66).expect(&rt, "memory");
-    notes_no_more_than_64(&rt, rt.alloc(), pile, true);
 }

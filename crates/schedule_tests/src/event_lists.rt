@@ -58,37 +58,13 @@ pub(crate) fn events_of(rt: &impl Abort, alloc: Global, lines: &[&str]) -> Event
 }
 
 #[test]
-fn no_events(rt: HostRuntime) {
-    are_events(&rt, &Events::new(rt.alloc()), &[]);
+fn each_event_comes_back(rt: HostRuntime) {
     let roomy = Events::with_capacity(rt.alloc(), 3).expect(&rt, "memory");
     are_events(&rt, &roomy, &[]);
-}
-
-#[test]
-fn each_event_comes_back(rt: HostRuntime) {
     let events = events_of(&rt, rt.alloc(), &LINES);
     let mut wanted = Vec::new(rt.alloc());
     for line in &LINES {
         wanted.push(event_of(&rt, line)).expect(&rt, "memory");
     }
-    are_events(&rt, &events, &wanted);
-}
-
-#[test]
-fn each_ask_and_append_has_its_own_call(rt: HostRuntime) {
-    let lines = [
-        "ask 1 1 balance alice",
-        "append 1 1 balance bob",
-        "append 1 1 balance carol",
-        "ask 1 1 balance dave",
-    ];
-    let events = events_of(&rt, rt.alloc(), &lines);
-    let [alice, bob, carol, dave] = lines;
-    let wanted = [
-        event_of(&rt, alice),
-        event_of(&rt, bob),
-        event_of(&rt, carol),
-        event_of(&rt, dave),
-    ];
     are_events(&rt, &events, &wanted);
 }

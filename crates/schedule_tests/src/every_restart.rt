@@ -97,19 +97,13 @@ fn plays_with(rt: &impl Abort, alloc: Global, more: &[(usize, &str)]) {
 }
 
 #[test]
-fn a_restart_at_every_place(rt: HostRuntime) {
+fn a_restart_or_a_crash_at_every_place(rt: HostRuntime) {
     for place in 0..=EVENTS.len() {
+        plays_with(&rt, rt.alloc(), &[(place, "crash 0")]);
         plays_with(&rt, rt.alloc(), &[(place, "restart 0")]);
         for mark in ["mark 0 ok", "mark 0 old", "mark 0 new"] {
             plays_with(&rt, rt.alloc(), &[(place, mark), (place, "restart 0")]);
         }
-    }
-}
-
-#[test]
-fn a_crash_of_the_sequencer_at_every_place(rt: HostRuntime) {
-    for place in 0..=EVENTS.len() {
-        plays_with(&rt, rt.alloc(), &[(place, "crash 0")]);
     }
 }
 

@@ -4,8 +4,6 @@
 #[cfg(test)]
 mod agreement;
 #[cfg(test)]
-mod audits;
-#[cfg(test)]
 mod breaks;
 #[cfg(test)]
 mod crashes;
@@ -32,8 +30,6 @@ mod notes;
 #[cfg(test)]
 mod outputs;
 #[cfg(test)]
-mod restarts;
-#[cfg(test)]
 mod room;
 #[cfg(test)]
 mod schedules;
@@ -45,7 +41,5 @@ mod stories;
 mod texts;
 #[cfg(test)]
 mod traces;
-#[cfg(test)]
-mod workers;
 #[cfg(test)]
 mod worlds;

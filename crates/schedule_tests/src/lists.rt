@@ -2,7 +2,7 @@
 use crate::event_lists::events_of;
 use crate::worlds::{event_of, stands_at, world_of};
 use sb_calls::Reply;
-use schedule_player::{AuditNote, Event, Events, Note, World, play, play_lines};
+use schedule_player::{AuditNote, Event, Note, World, play, play_lines};
 use schedule_text::push_note;
 use std::alloc::Global;
 use std::process::Abort;
@@ -55,14 +55,4 @@ fn the_lines_of_all_notes_in_order(rt: HostRuntime) {
     assert!(rt; play_lines(&mut world, &events, &mut out) == Ok(()));
     assert!(rt; out.as_slice() == wanted.as_slice());
     stands_at(&rt, &world, 0, 1, true);
-}
-
-#[test]
-fn no_events(rt: HostRuntime) {
-    let mut world = world_of(&rt, rt.alloc(), 1, 1);
-    plays(&rt, rt.alloc(), &mut world, &[], &[]);
-    let mut out = Vec::new(rt.alloc());
-    assert!(rt; play_lines(&mut world, &Events::new(rt.alloc()), &mut out) == Ok(()));
-    assert!(rt; out.is_empty());
-    stands_at(&rt, &world, 0, 0, true);
 }

@@ -4,7 +4,6 @@ use sb_frames::{Frame, FrameFault, decode, encode, encode_entry};
 use std::process::Abort;
 
 mod faults;
-mod limits;
 mod spellings;
 
 // Checks that an entry is spelled so from its call too.
@@ -17,19 +16,11 @@ fn entry_by_its_call(rt: &impl Abort, frame: &Frame, spelling: &[u8], what: &str
     }
 }
 
-// Checks the frame's spelling, and that it is decoded from these bytes and no fewer, whatever
-// follows them.
+// Checks the frame's spelling, and that it is decoded from these bytes.
 fn both_ways(rt: &impl Abort, frame: Frame, spelling: &[u8], what: &str) {
     assert!(rt; encode(&frame).as_slice() == spelling, "{what}");
     entry_by_its_call(rt, &frame, spelling, what);
     assert!(rt; decode(spelling) == Ok((frame, spelling.len())), "{what}");
-}
-
-// Checks that these digits spell each frame, and that it is decoded from them.
-fn are_spelled(rt: &(impl Abort + AllocGlobal), frames: &[(Frame, &str)]) {
-    for (frame, digits) in frames {
-        both_ways(rt, *frame, &bytes(rt, digits), digits);
-    }
 }
 
 // Checks that this body, after its length, spells each frame, and that it is decoded from there.
@@ -41,11 +32,4 @@ fn have_bodies(rt: &(impl Abort + AllocGlobal), frames: &[(Frame, &str)]) {
 
 fn is_refused(rt: &impl Abort, bytes: &[u8], fault: FrameFault, what: &str) {
     assert!(rt; decode(bytes) == Err(fault), "{what}");
-}
-
-// Checks that each of these bodies, after its length, is refused with this fault.
-fn are_refused(rt: &(impl Abort + AllocGlobal), fault: FrameFault, bodies: &[&str]) {
-    for body in bodies {
-        is_refused(rt, &frame_bytes(rt, body), fault, body);
-    }
 }

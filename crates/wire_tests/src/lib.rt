@@ -10,8 +10,6 @@ mod frames;
 #[cfg(test)]
 mod sequencer;
 #[cfg(test)]
-mod steps;
-#[cfg(test)]
 mod streams;
 #[cfg(test)]
 mod words;

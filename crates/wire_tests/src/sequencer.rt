@@ -1,13 +1,10 @@
 //! The sequencer: what it is asked, what it receives, and its answers.
 use crate::fixtures::{balance, entry};
-use crate::steps::is_so;
 use sb_calls::Reply;
 use sb_sequencer::{AckNote, AnswerNote, AskFault, HaveNote, Numbered, REPLICAS, Sequencer};
 use std::process::Abort;
 
 mod asks;
-mod donors;
-mod entries;
 mod notes;
 
 // A step on a sequencer, with its answer. Each call is a balance of the customer with this name.
@@ -38,6 +35,11 @@ enum Step {
     Donor(u8, Option<(u8, u64)>),
     // A replica gets this many entries of this call again; the first has this number.
     Resends(u8, u64, usize, &'static str),
+}
+
+// Checks what the step at this position says.
+fn is_so(rt: &impl Abort, position: usize, so: bool) {
+    assert!(rt; so, "step {position}");
 }
 
 // A sequencer for this many replicas.
@@ -126,20 +128,10 @@ fn play_step(rt: &impl Abort, log: &mut Sequencer, position: usize, step: &Step)
     }
 }
 
-fn play_steps_on(rt: &impl Abort, log: &mut Sequencer, steps: &[Step]) {
-    for (position, step) in steps.iter().enumerate() {
-        play_step(rt, log, position, step);
-    }
-}
-
 // Plays the steps on a sequencer for this many replicas.
 fn play_steps(rt: &(impl Abort + AllocGlobal), replicas: usize, steps: &[Step]) {
-    play_steps_on(rt, &mut new_sequencer(rt, replicas), steps);
-}
-
-// Plays the steps on a sequencer for one replica, with room for this many calls.
-fn play_steps_with_room(rt: &(impl Abort + AllocGlobal), calls: usize, steps: &[Step]) {
-    let log = Sequencer::with_capacity(rt.alloc(), 1, calls).expect(rt, "memory for calls");
-    let mut log = Box::new(rt.alloc(), log).expect(rt, "memory for a sequencer");
-    play_steps_on(rt, &mut log, steps);
+    let mut log = new_sequencer(rt, replicas);
+    for (position, step) in steps.iter().enumerate() {
+        play_step(rt, &mut log, position, step);
+    }
 }

@@ -1,25 +1,7 @@
 //! A stream of bytes that are cut into pieces in many ways.
 use crate::fixtures::{balance, bytes, entry, vectors};
-use crate::steps::is_so;
 use sb_frames::{Frame, FrameFault, Stream, StreamFault, encode};
-use std::ops::Range;
 use std::process::Abort;
-
-// A step on a stream, with its answer.
-#[derive(Clone, Copy)]
-enum Step<'a> {
-    // It takes the bytes that these digits spell.
-    Takes(&'a str),
-    // It hands out this frame.
-    Gives(Frame),
-    // The unread bytes are too few to judge.
-    Waits,
-    Fails(StreamFault),
-    // It takes no more bytes.
-    TakesNothing,
-    // Whether every byte that came was handed out in a frame.
-    Ended(bool),
-}
 
 fn new_stream(rt: &(impl Abort + AllocGlobal)) -> Box<Stream> {
     Box::new(rt.alloc(), Stream::new(rt.alloc())).expect(rt, "memory for a stream")
@@ -37,135 +19,46 @@ fn waits(rt: &impl Abort, stream: &mut Stream) {
     assert!(rt; stream.next() == Ok(None));
 }
 
-fn play_steps(rt: &(impl Abort + AllocGlobal), stream: &mut Stream, steps: &[Step]) {
-    for (position, step) in steps.iter().enumerate() {
-        match *step {
-            Step::Takes(digits) => takes(rt, stream, &bytes(rt, digits)),
-            Step::Gives(frame) => gives(rt, stream, frame),
-            Step::Waits => waits(rt, stream),
-            Step::Fails(fault) => is_so(rt, position, stream.next() == Err(fault)),
-            Step::TakesNothing => {
-                let failed = Err(StreamFault::Failed);
-                is_so(rt, position, stream.feed(&[0, 1, 6]) == failed);
-                is_so(rt, position, stream.feed(&[]) == failed);
-            }
-            Step::Ended(ended) => is_so(rt, position, stream.ended() == ended),
-        }
-    }
-}
-
-// Plays these steps on an empty stream.
-fn play_steps_alone(rt: &(impl Abort + AllocGlobal), steps: &[Step]) {
-    play_steps(rt, &mut new_stream(rt), steps);
-}
-
-// The bytes come one by one, and the frame is handed out after the last.
-fn feed_bytes_one_by_one(rt: &impl Abort, stream: &mut Stream, frame: Frame, bytes: &[u8]) {
+// The bytes come one by one, and the frame is handed out after the last. Then they come in one
+// piece.
+fn feed_by_bytes_and_whole(rt: &impl Abort, stream: &mut Stream, frame: &Frame, bytes: &[u8]) {
     for byte in bytes {
         waits(rt, stream);
         takes(rt, stream, &[*byte]);
         assert!(rt; !stream.ended());
     }
-    gives(rt, stream, frame);
+    gives(rt, stream, *frame);
+    assert!(rt; stream.ended());
+    takes(rt, stream, bytes);
+    gives(rt, stream, *frame);
     assert!(rt; stream.ended());
 }
 
 #[test]
-fn a_byte_at_a_time(rt: HostRuntime) {
+fn frames_by_bytes_and_whole(rt: HostRuntime) {
     let mut stream = new_stream(&rt);
     for (frame, digits) in vectors(&rt) {
-        feed_bytes_one_by_one(&rt, &mut stream, frame, &bytes(&rt, digits));
+        feed_by_bytes_and_whole(&rt, &mut stream, &frame, &bytes(&rt, digits));
     }
 }
 
-#[test]
-fn each_in_one_piece(rt: HostRuntime) {
-    for (frame, digits) in vectors(&rt) {
-        play_steps_alone(
-            &rt,
-            &[
-                Step::Takes(digits),
-                Step::Gives(frame),
-                Step::Waits,
-                Step::Ended(true),
-            ],
-        );
-    }
-}
-
-#[test]
-fn all_in_one_piece(rt: HostRuntime) {
-    let mut stream = new_stream(&rt);
-    for (_, digits) in vectors(&rt) {
-        play_steps(&rt, &mut stream, &[Step::Takes(digits)]);
-    }
-    for (frame, _) in vectors(&rt) {
-        play_steps(&rt, &mut stream, &[Step::Gives(frame)]);
-    }
-    play_steps(&rt, &mut stream, &[Step::Waits, Step::Ended(true)]);
+// The stream has failed, and says so whatever comes.
+fn has_failed(rt: &impl Abort, stream: &mut Stream) {
+    assert!(rt; stream.next() == Err(StreamFault::Failed));
+    assert!(rt; stream.feed(&[0, 1, 6]) == Err(StreamFault::Failed));
+    assert!(rt; !stream.ended());
 }
 
 #[test]
 fn a_fault_is_for_ever(rt: HostRuntime) {
     let mut stream = new_stream(&rt);
+    takes(&rt, &mut stream, &[0, 1, 9]);
+    takes(&rt, &mut stream, &[0, 1, 6]);
     let fault = StreamFault::Bad(FrameFault::UnknownTag);
-    play_steps(
-        &rt,
-        &mut stream,
-        &[
-            Step::Takes("0001 09"),
-            Step::Takes("0001 06"),
-            Step::Fails(fault),
-            Step::Ended(false),
-        ],
-    );
+    assert!(rt; stream.next() == Err(fault));
     for _ in 0..3 {
-        play_steps(
-            &rt,
-            &mut stream,
-            &[
-                Step::Fails(StreamFault::Failed),
-                Step::Ended(false),
-                Step::TakesNothing,
-            ],
-        );
+        has_failed(&rt, &mut stream);
     }
-}
-
-#[test]
-fn frames_before_a_fault_are_handed_out(rt: HostRuntime) {
-    let fault = StreamFault::Bad(FrameFault::BadLength);
-    play_steps_alone(
-        &rt,
-        &[
-            Step::Takes("0001 06 0001 06 0000"),
-            Step::Gives(Frame::Flush),
-            Step::Gives(Frame::Flush),
-            Step::Fails(fault),
-            Step::Ended(false),
-            Step::Fails(StreamFault::Failed),
-            Step::TakesNothing,
-        ],
-    );
-}
-
-#[test]
-fn a_stream_has_ended_where_nothing_is_unread(rt: HostRuntime) {
-    play_steps_alone(
-        &rt,
-        &[
-            Step::Ended(true),
-            Step::Takes(""),
-            Step::Ended(true),
-            Step::Takes("00"),
-            Step::Waits,
-            Step::Ended(false),
-            Step::Takes("01 06"),
-            Step::Ended(false),
-            Step::Gives(Frame::Flush),
-            Step::Ended(true),
-        ],
-    );
 }
 
 // The entry with this number, a balance of alice.
@@ -185,51 +78,17 @@ fn entries(rt: &(impl Abort + AllocGlobal), count: u64) -> Vec<u8> {
     bytes
 }
 
-// Each of these entries is handed out.
-fn gives_entries(rt: &impl Abort, stream: &mut Stream, numbers: Range<u64>) {
-    for number in numbers {
-        gives(rt, stream, alices(rt, number));
-    }
-}
-
-fn feed_pieces(rt: &impl Abort, stream: &mut Stream, bytes: &[u8]) {
-    assert!(rt; bytes.len() == 10_008);
-    let (front, rest) = bytes.split_at(5_000);
-    let (middle, last) = rest.split_at(5_000);
-    takes(rt, stream, front);
-    takes(rt, stream, middle);
-    gives_entries(rt, stream, 0..555);
-    waits(rt, stream);
-    takes(rt, stream, last);
-    gives_entries(rt, stream, 555..556);
-    assert!(rt; stream.ended());
-}
-
-// 10,008 bytes in pieces of 5,000, each cut within a frame.
-#[test]
-fn two_large_pieces_with_no_next_between(rt: HostRuntime) {
-    let bytes = entries(&rt, 556);
-    feed_pieces(&rt, &mut new_stream(&rt), &bytes);
-}
-
 // 1,048,590 bytes: a stream that copied the unread bytes, or those that were read, at each of them
 // would take minutes.
 const ENTRIES: u64 = 58_255;
 
 #[test]
-fn a_long_stream_a_byte_at_a_time(rt: HostRuntime) {
-    let mut stream = new_stream(&rt);
-    for number in 0..ENTRIES {
-        let entry = alices(&rt, number);
-        feed_bytes_one_by_one(&rt, &mut stream, entry, &encode(&entry));
-    }
-}
-
-#[test]
 fn a_long_stream_in_one_piece(rt: HostRuntime) {
     let mut stream = new_stream(&rt);
     takes(&rt, &mut stream, &entries(&rt, ENTRIES));
-    gives_entries(&rt, &mut stream, 0..ENTRIES);
+    for number in 0..ENTRIES {
+        gives(&rt, &mut stream, alices(&rt, number));
+    }
     waits(&rt, &mut stream);
     assert!(rt; stream.ended());
 }

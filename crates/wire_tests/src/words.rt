@@ -7,11 +7,11 @@ use std::process::Abort;
 // Checks the text of a fault.
 fn has_words(rt: &(impl Abort + AllocGlobal), fault: impl Display + Drop, words: &str) {
     let text = fault.to_string(rt.alloc()).expect(rt, "memory for a text");
-    assert!(rt; text.as_str() == words);
+    assert!(rt; text.as_str() == words, "{words}");
 }
 
 #[test]
-fn words_of_a_frames_faults(rt: HostRuntime) {
+fn texts_of_faults(rt: HostRuntime) {
     for (fault, words) in [
         (FrameFault::Short, "short"),
         (FrameFault::BadLength, "bad length"),
@@ -23,10 +23,6 @@ fn words_of_a_frames_faults(rt: HostRuntime) {
     ] {
         has_words(&rt, fault, words);
     }
-}
-
-#[test]
-fn words_of_a_streams_faults(rt: HostRuntime) {
     for (fault, words) in [
         (StreamFault::Bad(FrameFault::BadName), "bad frame: bad name"),
         (StreamFault::Failed, "failed"),
@@ -34,10 +30,6 @@ fn words_of_a_streams_faults(rt: HostRuntime) {
     ] {
         has_words(&rt, fault, words);
     }
-}
-
-#[test]
-fn words_of_an_asks_faults(rt: HostRuntime) {
     for (fault, words) in [
         (AskFault::Mismatch(12), "mismatch 12"),
         (AskFault::LogFull, "log full"),

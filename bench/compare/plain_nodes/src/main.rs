@@ -22,10 +22,12 @@ fn size() -> Option<Size> {
 fn run(size: Size) -> Result<(), Fault> {
     let mut input = Vec::new();
     io::stdin().lock().read_to_end(&mut input)?;
-    let output = output_of(&input, size)?;
+    let (output, answers) = output_of(&input, size)?;
     let mut stdout = io::stdout().lock();
     stdout.write_all(&output)?;
-    Ok(stdout.flush()?)
+    stdout.flush()?;
+    answers.tell();
+    Ok(())
 }
 
 fn main() -> ExitCode {

@@ -8,7 +8,7 @@ use crate::log::{Log, Standing};
 use crate::node::Node;
 use crate::shared::bank::Bank;
 use crate::shared::input::{LineFault, lines};
-use crate::shared::output::{push_mismatch, push_reply, push_rows};
+use crate::shared::output::{Answers, push_mismatch, push_reply, push_rows};
 use std::fmt;
 use std::io;
 use std::thread;
@@ -66,8 +66,8 @@ impl From<io::Error> for Fault {
     }
 }
 
-/// The output of a run of this input.
-pub fn output_of(input: &[u8], size: Size) -> Result<Vec<u8>, Fault> {
+/// The output of a run of this input, and how its requests were answered.
+pub fn output_of(input: &[u8], size: Size) -> Result<(Vec<u8>, Answers), Fault> {
     let mut lines = lines(input).zip(1..);
     let bank = Bank::read(&mut lines)?;
     let log = Log::read(lines)?;
@@ -85,9 +85,9 @@ pub fn output_of(input: &[u8], size: Size) -> Result<Vec<u8>, Fault> {
         Ok(followers.join(&node)?)
     })?;
     let mut output = Vec::new();
-    push_answers(&mut output, &log, &node.board);
+    let answers = push_answers(&mut output, &log, &node.board);
     push_state(&mut output, &bank, &node.board);
-    Ok(output)
+    Ok((output, answers))
 }
 
 /// The rows of an idle board, and their total.
@@ -112,7 +112,8 @@ fn carry_out(
     node.settle(crew)
 }
 
-fn push_answers(output: &mut Vec<u8>, log: &Log, board: &Board) {
+fn push_answers(output: &mut Vec<u8>, log: &Log, board: &Board) -> Answers {
+    let mut answers = Answers::default();
     for standing in &log.standings {
         match *standing {
             Standing::Numbered(number) => {
@@ -120,8 +121,16 @@ fn push_answers(output: &mut Vec<u8>, log: &Log, board: &Board) {
                     push_reply(output, number, reply);
                 }
             }
-            Standing::Mismatch(number) => push_mismatch(output, number),
-            Standing::Full => output.extend_from_slice(b"log full\n"),
+            Standing::Mismatch(number) => {
+                push_mismatch(output, number);
+                answers.mismatches += 1;
+            }
+            Standing::Full => {
+                output.extend_from_slice(b"log full\n");
+                answers.log_full += 1;
+            }
         }
     }
+    answers.lines = log.standings.len();
+    answers
 }

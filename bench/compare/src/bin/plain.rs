@@ -13,7 +13,7 @@ mod shared;
 
 use shared::bank::Bank;
 use shared::input::{Call, Key, LineFault, asking, lines};
-use shared::output::{Reply, push_mismatch, push_reply, push_rows};
+use shared::output::{Answers, Reply, push_mismatch, push_reply, push_rows};
 use shared::{LIMIT, LOG_CALLS, PENALTY};
 use std::collections::HashMap;
 use std::env;
@@ -151,24 +151,28 @@ impl Keys {
     }
 }
 
-fn output_of(input: &[u8], memory: Memory) -> Result<Vec<u8>, LineFault> {
+fn output_of(input: &[u8], memory: Memory) -> Result<(Vec<u8>, Answers), LineFault> {
     let mut lines = lines(input).zip(1..);
     let mut keys = Keys { memory, running: 0 };
     let mut bank = Bank::read(&mut lines)?;
     let mut requests: HashMap<Key, Numbered> = HashMap::new();
     let mut out = Vec::new();
     let mut length = 0;
+    let mut answers = Answers::default();
     for (text, line) in lines {
         let (key, call) = asking(text).map_err(|fault| LineFault { line, fault })?;
         let key = keys.key_of(key);
+        answers.lines += 1;
         if let Some(first) = key.and_then(|key| requests.get(&key)) {
             if first.call == call {
                 push_reply(&mut out, first.number, first.reply);
             } else {
                 push_mismatch(&mut out, first.number);
+                answers.mismatches += 1;
             }
         } else if length == LOG_CALLS {
             out.extend_from_slice(b"log full\n");
+            answers.log_full += 1;
         } else {
             length += 1;
             let reply = bank.carry_out(&call);
@@ -191,17 +195,18 @@ fn output_of(input: &[u8], memory: Memory) -> Result<Vec<u8>, LineFault> {
         &mut out,
         rows.map(|(name, (savings, checking))| (*name, *savings, *checking)),
     );
-    Ok(out)
+    Ok((out, answers))
 }
 
 fn run(memory: Memory) -> io::Result<Result<(), LineFault>> {
     let mut input = Vec::new();
     io::stdin().lock().read_to_end(&mut input)?;
     match output_of(&input, memory) {
-        Ok(output) => {
+        Ok((output, answers)) => {
             let mut stdout = io::stdout().lock();
             stdout.write_all(&output)?;
             stdout.flush()?;
+            answers.tell();
             Ok(Ok(()))
         }
         Err(fault) => Ok(Err(fault)),

@@ -1,4 +1,4 @@
-//! Lines of an output.
+//! Lines of an output, and how its requests were answered.
 
 #[derive(Clone, Copy, Debug, PartialEq, Eq)]
 pub enum Reply {
@@ -65,6 +65,25 @@ pub fn push_mismatch(out: &mut Vec<u8>, number: u32) {
     out.extend_from_slice(b"mismatch ");
     push_number(out, u64::from(number));
     out.push(b'\n');
+}
+
+/// How many requests were answered, and how many of them otherwise than by a reply.
+#[derive(Clone, Copy, Debug, Default)]
+pub struct Answers {
+    pub lines: usize,
+    pub log_full: usize,
+    pub mismatches: usize,
+}
+
+impl Answers {
+    /// Tells on standard error how many were answered otherwise than by a reply, if some were.
+    pub fn tell(&self) {
+        for (count, answer) in [(self.log_full, "log full"), (self.mismatches, "mismatch")] {
+            if count > 0 {
+                eprintln!("smallbank: {count} of {} lines: {answer}", self.lines);
+            }
+        }
+    }
 }
 
 /// The rows of all customers, and their total.

@@ -56,29 +56,11 @@ fn a_small_bank(rt: HostRuntime) {
         overdrawn: 1,
     };
     expect_audit(&rt, rt.alloc(), CLOSING, right);
-}
-
-#[test]
-fn balances_that_the_calls_do_not_explain(rt: HostRuntime) {
+    // Balances that the calls don't explain.
     let wrong = Audit {
         total: 18000,
         expected: 14899,
         overdrawn: 0,
     };
     expect_audit(&rt, rt.alloc(), OPENING, wrong);
-}
-
-#[test]
-fn a_bank_without_customers_and_calls(rt: HostRuntime) {
-    let empty = columns_of(&rt, rt.alloc(), "begin\n");
-    let none = Audit {
-        total: 0,
-        expected: 0,
-        overdrawn: 0,
-    };
-    expect(
-        &rt,
-        audit(&empty, bank_total(&empty), &[], &[]) == none,
-        "nothing",
-    );
 }

@@ -1,24 +1,20 @@
-//! The bank of three customers on which calls are executed.
+//! The bank on which calls are executed.
 use sb_calls::{Call, Reply, apply, resolve};
 use sb_rows::{Columns, Directory, read_opening};
 use std::alloc::Global;
 use std::process::Abort;
 
-const OPENING: &str = "alice 100.00 50.00\nbob 0.00 20.00\ncarol 10.00 0.00\nbegin\n";
+/// A bank of three customers.
+pub(super) const OPENING: &str = "alice 100.00 50.00\nbob 0.00 20.00\ncarol 10.00 0.00\nbegin\n";
 
 #[derive(Drop)]
 pub(super) struct Bank {
-    pub(super) directory: Directory,
+    directory: Directory,
     pub(super) columns: Columns,
 }
 
-/// The bank at its opening.
-pub(super) fn open_bank(rt: &impl Abort, alloc: Global) -> Box<Bank> {
-    open_bank_with(rt, alloc, OPENING)
-}
-
 /// A bank with this opening text.
-pub(super) fn open_bank_with(rt: &impl Abort, alloc: Global, text: &str) -> Box<Bank> {
+pub(super) fn open_bank(rt: &impl Abort, alloc: Global, text: &str) -> Box<Bank> {
     let opening = read_opening(alloc, text.as_bytes()).expect(rt, "an opening");
     let bank = Bank {
         directory: opening.directory,

@@ -1,7 +1,6 @@
 //! Calls compared with a plain bank, which keeps names and balances together.
-use super::bank::{Bank, execute_call, open_bank};
-use crate::fixtures::{cents, name};
-use crate::rows::columns::expect_columns;
+use super::bank::{Bank, OPENING, execute_call, open_bank};
+use crate::fixtures::{cents, expect_columns, name};
 use sb_amount::LIMIT;
 use sb_calls::{Call, Reply};
 use sb_rows::Name;
@@ -197,7 +196,7 @@ fn expect_same(rt: &impl Abort, bank: &mut Bank, plain: &mut [Customer], seed: u
 
 #[test]
 fn two_hundred_calls(rt: HostRuntime) {
-    let mut bank = open_bank(&rt, rt.alloc());
+    let mut bank = open_bank(&rt, rt.alloc(), OPENING);
     let mut plain = OPENING_ROWS;
     for seed in 0..200u8 {
         expect_same(&rt, &mut bank, &mut plain, seed);

@@ -1,19 +1,8 @@
 //! Columns, and copies of them.
-use crate::fixtures::{cents, expect, expect_amounts, many_lines, valid_opening};
+use crate::fixtures::{cents, expect, expect_columns};
 use sb_rows::{CUSTOMERS, Columns};
 use std::alloc::Global;
 use std::process::Abort;
-
-/// Checks the savings and the checking balances of columns.
-pub(crate) fn expect_columns(
-    rt: &impl Abort,
-    columns: &Columns,
-    savings: &[i64],
-    checking: &[i64],
-) {
-    expect_amounts(rt, columns.savings(), savings, "savings");
-    expect_amounts(rt, columns.checking(), checking, "checking balances");
-}
 
 // Appends the balances of one more customer, if they are in range.
 fn add_balances(rt: &impl Abort, columns: &mut Columns, savings: i64, checking: i64) {
@@ -40,7 +29,8 @@ fn empty(rt: &impl Abort, alloc: Global) -> Box<Columns> {
     Box::new(alloc, Columns::new(alloc)).expect(rt, "memory for a box")
 }
 
-fn copy_of(rt: &impl Abort, alloc: Global, columns: &Columns) -> Box<Columns> {
+/// A copy of columns.
+pub(super) fn copy_of(rt: &impl Abort, alloc: Global, columns: &Columns) -> Box<Columns> {
     let copy = columns.copy().expect(rt, "memory for columns");
     Box::new(alloc, copy).expect(rt, "memory for a box")
 }
@@ -55,18 +45,4 @@ fn a_copy_stays(rt: HostRuntime) {
     replace_two(&rt, &mut columns, 9);
     expect_columns(&rt, &columns, &[9, 0, 1], &[-20, 9, 2]);
     expect_columns(&rt, &copy, &[500, 0], &[-20, 7]);
-}
-
-// Checks that both columns hold the balances of this many customers, and the same ones.
-fn expect_same(rt: &impl Abort, a: &Columns, b: &Columns, customers: usize) {
-    expect(rt, a.customers() == customers, "how many customers");
-    expect_columns(rt, a, b.savings(), b.checking());
-}
-
-#[test]
-fn a_copy_of_as_many_balances_as_a_bank_has(rt: HostRuntime) {
-    let text = many_lines(&rt, rt.alloc(), 65_536, "begin\n");
-    let opening = valid_opening(&rt, rt.alloc(), text.as_str());
-    let copy = copy_of(&rt, rt.alloc(), &opening.columns);
-    expect_same(&rt, &copy, &opening.columns, 65_536);
 }

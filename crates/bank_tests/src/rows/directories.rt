@@ -1,11 +1,11 @@
 //! Directories, and copies of them.
-use crate::fixtures::{expect, many_lines, name, valid_opening};
+use crate::fixtures::{expect, name};
 use sb_rows::{CUSTOMERS, Directory};
 use std::alloc::Global;
 use std::process::Abort;
 
-// Checks that a directory has a name at this place.
-fn expect_name(rt: &impl Abort, directory: &Directory, place: u32, text: &str) {
+/// Checks that a directory has a name at this place.
+pub(super) fn expect_name(rt: &impl Abort, directory: &Directory, place: u32, text: &str) {
     let name = name(rt, text);
     expect(rt, directory.name(place) == Some(name), text);
     expect(rt, directory.place(&name) == Some(place), text);
@@ -41,7 +41,8 @@ fn empty(rt: &impl Abort, alloc: Global) -> Box<Directory> {
     Box::new(alloc, directory).expect(rt, "memory for a box")
 }
 
-fn copy_of(rt: &impl Abort, alloc: Global, directory: &Directory) -> Box<Directory> {
+/// A copy of a directory.
+pub(super) fn copy_of(rt: &impl Abort, alloc: Global, directory: &Directory) -> Box<Directory> {
     let copy = directory.copy().expect(rt, "memory for a directory");
     Box::new(alloc, copy).expect(rt, "memory for a box")
 }
@@ -57,20 +58,4 @@ fn a_copy_stays(rt: HostRuntime) {
     expect_names(&rt, &directory, &["bob", "alice", "carol"]);
     expect_names(&rt, &copy, &["bob", "alice"]);
     expect_no_name(&rt, &copy, "carol");
-}
-
-// Checks that both directories have this many names, and the same ones.
-fn expect_same_names(rt: &impl Abort, a: &Directory, b: &Directory, places: u32) {
-    expect(rt, a.len() == places as usize, "how many names");
-    for place in 0..places {
-        expect(rt, a.name(place) == b.name(place), "a name");
-    }
-}
-
-#[test]
-fn a_copy_of_as_many_names_as_a_bank_has(rt: HostRuntime) {
-    let text = many_lines(&rt, rt.alloc(), 65_536, "begin\n");
-    let opening = valid_opening(&rt, rt.alloc(), text.as_str());
-    let copy = copy_of(&rt, rt.alloc(), &opening.directory);
-    expect_same_names(&rt, &copy, &opening.directory, 65_536);
 }

@@ -53,22 +53,3 @@ fn the_lowest_bit_of_each_of_121_bytes(rt: HostRuntime) {
         ],
     );
 }
-
-#[test]
-fn the_lowest_bit_of_each_of_129_bytes(rt: HostRuntime) {
-    are_answered(
-        &rt,
-        &SECOND,
-        &[
-            (Some(CheckpointFault::BadMagic), 8),
-            (Some(CheckpointFault::Short), 10),
-            (Some(CheckpointFault::WrongCustomers), 1),
-            (Some(CheckpointFault::OutOfRange), 18),
-            (Some(CheckpointFault::WrongTotal), 38),
-            (Some(CheckpointFault::WrongOpening), 8),
-            (Some(CheckpointFault::BadReply), 35),
-            (Some(CheckpointFault::Long), 1),
-            (None, 10),
-        ],
-    );
-}

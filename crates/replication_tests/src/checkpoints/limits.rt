@@ -1,4 +1,4 @@
-//! The largest checkpoints, and those that state a greater length.
+//! The largest checkpoints.
 use super::*;
 use sb_amount::Cents;
 use sb_rows::Columns;
@@ -68,21 +68,4 @@ fn a_full_log_is_read_and_written(rt: HostRuntime) {
     };
     are_read(&rt, &first, 0, parts, &second);
     are_read(&rt, &second, 0, parts, &second);
-}
-
-#[test]
-fn one_reply_more_than_a_log_takes_is_too_long(rt: HostRuntime) {
-    for layout in [FIRST_OF_NOBODY, SECOND_OF_NOBODY] {
-        let bytes = shown_nothing(&rt, layout, "00000000000f4241", 1_000_001);
-        is_refused(&rt, &bytes, (0, 0), CheckpointFault::Long);
-    }
-}
-
-#[test]
-fn the_greatest_stated_sizes_are_short(rt: HostRuntime) {
-    for head in ["5342434b50543031", "5342434b50543032"] {
-        let stated = "ffffffffffffffff ffffffff 0000000000000000 0000000000000000";
-        let bytes = bytes(&rt, &[head, stated]);
-        is_refused(&rt, &bytes, (0, 0), CheckpointFault::Short);
-    }
 }

@@ -43,19 +43,3 @@ fn a_cut_outlasts_a_mark_that_fails(rt: HostRuntime) {
         ],
     );
 }
-
-#[test]
-fn a_restart_drops_the_cut(rt: HostRuntime) {
-    plays(
-        &rt,
-        &[
-            Step::AcceptUpTo(1, "deposit alice 1.00"),
-            Step::Run(1, Reply::Done),
-            Step::Cut(Ok(1)),
-            Step::Restart(Ok(0)),
-            Step::Ends(0, [5_000, 2_000, 0]),
-            Step::Cut(Ok(0)),
-            Step::Mark(Ok(0)),
-        ],
-    );
-}

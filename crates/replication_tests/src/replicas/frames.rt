@@ -1,9 +1,8 @@
-//! What a replica receives, and what it sends.
+//! Entries that a replica receives.
 use super::*;
-use sb_calls::WireReply;
 
 #[test]
-fn only_the_next_entry_is_accepted(rt: HostRuntime) {
+fn each_entry_is_accepted_in_its_turn(rt: HostRuntime) {
     plays(
         &rt,
         &[
@@ -18,10 +17,6 @@ fn only_the_next_entry_is_accepted(rt: HostRuntime) {
             Step::Ends(2, [5_100, 2_100, 0]),
         ],
     );
-}
-
-#[test]
-fn an_entry_that_came_early_is_accepted_in_its_turn(rt: HostRuntime) {
     plays(
         &rt,
         &[
@@ -49,45 +44,6 @@ fn an_entry_waits_while_too_many_are_unfinished(rt: HostRuntime) {
             Step::Run(1, Reply::Done),
             Step::ReceiveEntry(1_025, line, Heard::Accepted(1_025)),
             Step::Advance(Some(Heard::Busy(1_025))),
-        ],
-    );
-}
-
-#[test]
-fn what_is_no_whole_frame_is_refused(rt: HostRuntime) {
-    let short = ReplicaFault::BadFrame(FrameFault::Short);
-    let unknown = ReplicaFault::BadFrame(FrameFault::UnknownTag);
-    let long = ReplicaFault::BadFrame(FrameFault::BadLength);
-    plays(
-        &rt,
-        &[
-            Step::ReceiveBytes(&[], Err(short)),
-            Step::ReceiveBytes(&[0, 1, 9], Err(unknown)),
-            // A whole frame, and one more byte.
-            Step::ReceiveBytes(&[0, 1, 6, 0], Err(long)),
-            Step::ReceiveBytes(&[0, 1, 6], Ok(Heard::Ignored)),
-            // The length of another replica's checkpoint.
-            Step::ReceiveBytes(&[0, 10, 7, 1, 0, 0, 0, 0, 0, 0, 0, 2], Ok(Heard::Ignored)),
-            Step::Length(0),
-        ],
-    );
-}
-
-#[test]
-fn it_sends_its_length_and_its_replies(rt: HostRuntime) {
-    let reply = WireReply::new(Reply::Shown(15_000)).expect(&rt, "a reply");
-    plays(
-        &rt,
-        &[
-            Step::AcceptUpTo(1, "balance alice"),
-            Step::AckFrame(Frame::Ack {
-                replica: 1,
-                length: 1,
-            }),
-            Step::AnswerFrame(1, None),
-            Step::Run(1, Reply::Shown(15_000)),
-            Step::AnswerFrame(1, Some(Frame::Answer { number: 1, reply })),
-            Step::AnswerFrame(0, None),
         ],
     );
 }

@@ -1,6 +1,7 @@
 //! Checkpoints that are put into the store.
 use super::*;
 use crate::checkpoints::{OPENING, SECOND};
+use sb_calls::WireReply;
 
 // The checkpoint after the five calls of the last test, by hand.
 pub(crate) const AFTER_FIVE_CALLS: [&str; 6] = SECOND;
@@ -33,21 +34,8 @@ fn a_busy_replica_leaves_its_store(rt: HostRuntime) {
 }
 
 #[test]
-fn an_idle_replica_puts_its_checkpoint(rt: HostRuntime) {
-    plays(
-        &rt,
-        &[
-            Step::AcceptUpTo(1, "deposit alice 1.00"),
-            Step::Run(1, Reply::Done),
-            Step::Mark(Ok(1)),
-            Step::Stored(Some(&AFTER_A_DEPOSIT)),
-            Step::Ends(1, [5_100, 2_000, 0]),
-        ],
-    );
-}
-
-#[test]
 fn a_mark_after_five_calls(rt: HostRuntime) {
+    let reply = WireReply::new(Reply::Done).expect(&rt, "a reply");
     plays(
         &rt,
         &[
@@ -65,6 +53,12 @@ fn a_mark_after_five_calls(rt: HostRuntime) {
             Step::Stored(Some(&AFTER_FIVE_CALLS)),
             Step::GivesState(Some((5, &AFTER_FIVE_CALLS))),
             Step::HaveFrame(5),
+            Step::AckFrame(Frame::Ack {
+                replica: 1,
+                length: 5,
+            }),
+            Step::AnswerFrame(5, Some(Frame::Answer { number: 5, reply })),
+            Step::AnswerFrame(6, None),
         ],
     );
 }

@@ -1,6 +1,6 @@
 //! A replica that receives a stream, compared with one that receives the bytes of the same frames.
 use super::*;
-use sb_frames::{Stream, StreamFault};
+use sb_frames::{FrameFault, Stream, StreamFault};
 use sb_replica::{BATCH_ENTRIES, Pause, ReceiveFault};
 
 // A replica, and the stream that it receives.
@@ -21,19 +21,6 @@ fn new_stream_node(rt: &(impl Abort + AllocGlobal)) -> Box<StreamNode> {
 fn entry(rt: &impl Abort, number: u64, line: &str) -> Frame {
     let call = read_call(line.as_bytes()).expect(rt, "a call");
     Frame::Entry { number, call }
-}
-
-// Entries with these numbers, each a deposit.
-fn entries(rt: &(impl Abort + AllocGlobal), numbers: &[u64]) -> Vec<Frame> {
-    let mut frames = Vec::new(rt.alloc());
-    for number in numbers {
-        assert!(rt;
-            frames
-                .push(entry(rt, *number, "deposit alice 0.01"))
-                .is_ok()
-        );
-    }
-    frames
 }
 
 fn entries_up_to(rt: &(impl Abort + AllocGlobal), last: u64) -> Vec<Frame> {
@@ -152,124 +139,6 @@ fn a_long_stream_is_received_as_its_frames(rt: HostRuntime) {
     }
 }
 
-// The bytes that are fed, the answer to them, and the length of the log after it.
-#[derive(Clone, Copy)]
-struct StreamCase<'a> {
-    bytes: &'a [u8],
-    answer: Result<Pause, ReceiveFault>,
-    length: u64,
-}
-
-fn receives_so(rt: &impl Abort, other: &mut StreamNode, position: usize, case: &StreamCase) {
-    assert!(rt; other.stream.feed(case.bytes) == Ok(()));
-    let answered = other.node.replica.receive_stream(&mut other.stream);
-    is_so(rt, position, answered == case.answer);
-    is_so(rt, position, other.node.replica.length() == case.length);
-}
-
-#[test]
-fn a_pause_is_made_at_each_frame_that_is_no_entry(rt: HostRuntime) {
-    let bytes = spelled(&rt, &entries_up_to(&rt, 2));
-    let flush = [0, 1, 6];
-    let mut other = new_stream_node(&rt);
-    for (position, case) in [
-        StreamCase {
-            bytes: &[],
-            answer: Ok(Pause::Short),
-            length: 0,
-        },
-        StreamCase {
-            bytes: &bytes,
-            answer: Ok(Pause::Short),
-            length: 2,
-        },
-        StreamCase {
-            bytes: &flush,
-            answer: Ok(Pause::Other(Frame::Flush)),
-            length: 2,
-        },
-        StreamCase {
-            bytes: &flush[..2],
-            answer: Ok(Pause::Short),
-            length: 2,
-        },
-        StreamCase {
-            bytes: &flush[2..],
-            answer: Ok(Pause::Other(Frame::Flush)),
-            length: 2,
-        },
-    ]
-    .iter()
-    .enumerate()
-    {
-        receives_so(&rt, &mut other, position, case);
-    }
-}
-
-#[test]
-fn no_entry_is_taken_while_too_many_are_unfinished(rt: HostRuntime) {
-    let first = spelled(&rt, &entries_up_to(&rt, 1_030));
-    let mut other = new_stream_node(&rt);
-    let busy = StreamCase {
-        bytes: &[],
-        answer: Ok(Pause::Busy),
-        length: 1_024,
-    };
-    receives_so(
-        &rt,
-        &mut other,
-        0,
-        &StreamCase {
-            bytes: &first,
-            ..busy
-        },
-    );
-    receives_so(&rt, &mut other, 1, &busy);
-    runs(&rt, &mut other.node.replica, 1, Reply::Done);
-    receives_so(
-        &rt,
-        &mut other,
-        2,
-        &StreamCase {
-            length: 1_025,
-            ..busy
-        },
-    );
-    run_all(&rt, &mut other.node.replica);
-    let short = StreamCase {
-        bytes: &[],
-        answer: Ok(Pause::Short),
-        length: 1_030,
-    };
-    receives_so(&rt, &mut other, 3, &short);
-}
-
-// What was read ahead and not received is still handed out by the stream itself.
-#[test]
-fn what_is_not_received_stays_in_the_stream(rt: HostRuntime) {
-    let bytes = spelled(&rt, &entries_up_to(&rt, 1_100));
-    let mut other = new_stream_node(&rt);
-    let busy = StreamCase {
-        bytes: &bytes,
-        answer: Ok(Pause::Busy),
-        length: 1_024,
-    };
-    receives_so(&rt, &mut other, 0, &busy);
-    runs(&rt, &mut other.node.replica, 1, Reply::Done);
-    let again = StreamCase {
-        bytes: &[],
-        answer: Ok(Pause::Busy),
-        length: 1_025,
-    };
-    receives_so(&rt, &mut other, 1, &again);
-    for number in 1_026..1_101 {
-        let next = entry(&rt, number, "deposit alice 0.01");
-        assert!(rt; other.stream.next() == Ok(Some(next)), "{number}");
-    }
-    assert!(rt; other.stream.ended());
-}
-
-// No more bytes are fed.
 fn fails_so(rt: &impl Abort, other: &mut StreamNode, fault: ReceiveFault) {
     let answered = other.node.replica.receive_stream(&mut other.stream);
     assert!(rt; answered == Err(fault));
@@ -277,21 +146,11 @@ fn fails_so(rt: &impl Abort, other: &mut StreamNode, fault: ReceiveFault) {
 
 #[test]
 fn what_came_before_a_bad_frame_is_received(rt: HostRuntime) {
-    let good = spelled(&rt, &entries(&rt, &[1, 2, 4, 3]));
+    let good = spelled(&rt, &entries_up_to(&rt, 2));
     let bad = ReceiveFault::Stream(StreamFault::Bad(FrameFault::UnknownTag));
-    let failed = ReceiveFault::Stream(StreamFault::Failed);
     let mut other = new_stream_node(&rt);
     assert!(rt; other.stream.feed(&good) == Ok(()));
-    receives_so(
-        &rt,
-        &mut other,
-        0,
-        &StreamCase {
-            bytes: &[0, 1, 9],
-            answer: Err(bad),
-            length: 3,
-        },
-    );
-    fails_so(&rt, &mut other, failed);
-    assert!(rt; other.node.replica.advance() == Ok(Some(Heard::Accepted(4))));
+    assert!(rt; other.stream.feed(&[0, 1, 9]) == Ok(()));
+    fails_so(&rt, &mut other, bad);
+    assert!(rt; other.node.replica.length() == 2);
 }

@@ -202,6 +202,7 @@ fn plays_failing(rt: &impl Abort, files: &HostRuntime, name: &str, steps: &[(Cal
     removes(rt, files, &folder);
 }
 
+// It leaves no spare either.
 #[test]
 fn a_put_that_fails_leaves_the_old_or_the_new(rt: HostRuntime) {
     for (call, left) in [
@@ -219,6 +220,15 @@ fn a_put_that_fails_leaves_the_old_or_the_new(rt: HostRuntime) {
             &[
                 (Call::None, &[Step::Put(b"first", Ok(()), 0)]),
                 (call, &[Step::Put(b"second", FAILED, 1)]),
+            ],
+        );
+        plays_failing(
+            &rt,
+            &rt,
+            "replication_tests_fail",
+            &[
+                (Call::None, &[Step::Put(b"first", Ok(()), 0)]),
+                (call, &[Step::Put(b"second", FAILED, 1)]),
                 (
                     Call::None,
                     &[
@@ -227,28 +237,6 @@ fn a_put_that_fails_leaves_the_old_or_the_new(rt: HostRuntime) {
                         Step::Holds(b"third"),
                     ],
                 ),
-            ],
-        );
-    }
-}
-
-#[test]
-fn a_put_that_fails_leaves_no_spare(rt: HostRuntime) {
-    for call in [
-        Call::Create,
-        Call::Write,
-        Call::Sync,
-        Call::OpenFolder,
-        Call::Rename,
-        Call::SyncFolder,
-    ] {
-        plays_failing(
-            &rt,
-            &rt,
-            "replication_tests_spare",
-            &[
-                (Call::None, &[Step::Put(b"first", Ok(()), 0)]),
-                (call, &[Step::Put(b"second", FAILED, 1)]),
             ],
         );
     }

@@ -18,14 +18,3 @@ fn a_put_ends_as_it_is_told(rt: HostRuntime) {
     puts(&rt, &mut store, b"fourth", Ok(()), 2);
     has_content(&rt, &mut store, b"fourth");
 }
-
-#[test]
-fn a_first_put_that_fails_leaves_nothing_or_all(rt: HostRuntime) {
-    let mut store = MemoryStore::new(rt.alloc());
-    store.tell(How::Old);
-    puts(&rt, &mut store, b"first", Err(StoreFault::Device), 1);
-    holds_nothing(&rt, &mut store);
-    store.tell(How::New);
-    puts(&rt, &mut store, b"first", Err(StoreFault::Device), 2);
-    has_content(&rt, &mut store, b"first");
-}

@@ -70,6 +70,19 @@ fn a_batch_over_one_connection(rt: HostRuntime) {
         ..TOLD
     };
     expect_run(&rt, rt.alloc(), "two lines", case);
+    let servers = [server(REFUSED, BOTH)];
+    let case = Case {
+        servers: &servers,
+        printed: b"1 mismatch\n2 log full\n",
+        ..TOLD
+    };
+    expect_run(&rt, rt.alloc(), "a mismatch and a full log", case);
+    let case = Case {
+        input: b"",
+        printed: b"",
+        ..TOLD
+    };
+    expect_run(&rt, rt.alloc(), "no line", case);
 }
 
 #[test]
@@ -122,25 +135,4 @@ fn a_server_that_takes_little(rt: HostRuntime) {
         ..TOLD
     };
     expect_run(&rt, rt.alloc(), "all is asked again", case);
-}
-
-#[test]
-fn outcomes_without_a_reply(rt: HostRuntime) {
-    let servers = [server(REFUSED, BOTH)];
-    let case = Case {
-        servers: &servers,
-        printed: b"1 mismatch\n2 log full\n",
-        ..TOLD
-    };
-    expect_run(&rt, rt.alloc(), "a mismatch and a full log", case);
-}
-
-#[test]
-fn nothing_to_ask(rt: HostRuntime) {
-    let case = Case {
-        input: b"",
-        printed: b"",
-        ..TOLD
-    };
-    expect_run(&rt, rt.alloc(), "no line", case);
 }

@@ -10,7 +10,7 @@ const LAST: &[u8] = b"\0\x10\x01\0\0\0\x07\xff\xff\xff\xff\x01\x05alice\0\x01\x0
 const SHOWN_LAST: &[u8] = b"\0\x13\x05\0\0\0\x07\xff\xff\xff\xff\0\0\0\0\0\0\0\0\x3a\x98";
 
 #[test]
-fn lines_at_fault(rt: HostRuntime) {
+fn lines_that_are_not_asked(rt: HostRuntime) {
     let servers = [server(SHOWN, FIRST)];
     let case = Case {
         input: b"balance alice\nbalance\ndeposit bob 5.00\n",
@@ -34,10 +34,6 @@ fn lines_at_fault(rt: HostRuntime) {
         ..TOLD
     };
     expect_run(&rt, rt.alloc(), "an empty line", case);
-}
-
-#[test]
-fn the_last_request_number(rt: HostRuntime) {
     let servers = [server(SHOWN_LAST, LAST)];
     let plan = AskPlan {
         first: u32::MAX,
@@ -54,7 +50,7 @@ fn the_last_request_number(rt: HostRuntime) {
 }
 
 #[test]
-fn bytes_that_are_no_outcome(rt: HostRuntime) {
+fn bytes_that_are_no_outcome_or_one_too_many(rt: HostRuntime) {
     let servers = [server(b"HTTP/1.1 400 Bad Request", BOTH)];
     let case = Case {
         servers: &servers,
@@ -75,10 +71,6 @@ fn bytes_that_are_no_outcome(rt: HostRuntime) {
         ..case
     };
     expect_run(&rt, rt.alloc(), "an ask", case);
-}
-
-#[test]
-fn something_after_the_last_outcome(rt: HostRuntime) {
     let servers = [server(SHOWN_DONE, FIRST)];
     let case = Case {
         input: b"balance alice\n",

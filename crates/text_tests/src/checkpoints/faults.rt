@@ -1,5 +1,5 @@
 //! Bytes that are no checkpoint, or one of another bank.
-use super::{FIRST, OPENING, SECOND, expect_fault, expect_text, listed, listed_as_opening, opened};
+use super::{OPENING, SECOND, expect_fault, listed, listed_as_opening, opened};
 use checkpoint_text::{CheckpointListFault, CheckpointListing};
 use sb_checkpoint::CheckpointFault;
 use std::alloc::Global;
@@ -107,29 +107,6 @@ fn each_fault_of_bytes(rt: HostRuntime) {
             let fault = CheckpointListFault::Checkpoint(fault);
             let listing = listed_as_opening(&rt, rt.alloc(), &bytes, &opening);
             expect_fault(&rt, &listing, fault, "of this bank");
-        }
-    }
-}
-
-#[test]
-fn another_opening_total(rt: HostRuntime) {
-    let bytes = damaged(&rt, rt.alloc(), 83, 1, 0);
-    let listing = listed(&rt, rt.alloc(), &bytes, CheckpointListing::Balances);
-    let text = b"checkpoint 5\ncustomers 3\ntotal 25.00\nopening 179.20\n\
-          0 0.00 0.00\n1 0.00 25.00\n2 0.00 0.00\n";
-    expect_text(&rt, &listing, text, "another opening total");
-}
-
-#[test]
-fn bytes_that_end_early(rt: HostRuntime) {
-    let opening = opened(&rt, rt.alloc(), OPENING);
-    let short = CheckpointListFault::Checkpoint(CheckpointFault::Short);
-    for whole in [FIRST, SECOND] {
-        for length in 0..whole.len() {
-            let listing = listed(&rt, rt.alloc(), &whole[..length], CheckpointListing::Check);
-            expect_fault(&rt, &listing, short, "of any bank");
-            let listing = listed_as_opening(&rt, rt.alloc(), &whole[..length], &opening);
-            expect_fault(&rt, &listing, short, "of this bank");
         }
     }
 }

@@ -45,16 +45,10 @@ fn read_of(alloc: Global, length: usize, fails: bool) -> Result<Vec<u8>, ReadFau
 }
 
 #[test]
-fn pieces_and_interrupted_reads(rt: HostRuntime) {
+fn pieces_interrupted_reads_and_failing_ones(rt: HostRuntime) {
     for length in 0..19usize {
         let input = read_of(rt.alloc(), length, false).expect(&rt, "an input");
         expect_bytes(&rt, &input, &TEXT[..length.min(18)], "pieces");
-    }
-}
-
-#[test]
-fn a_read_that_fails(rt: HostRuntime) {
-    for length in 0..19usize {
         let fault = read_of(rt.alloc(), length, true).err();
         expect(&rt, fault == Some(ReadFault::Device), "a broken connection");
     }
@@ -77,14 +71,10 @@ impl Read for Interrupted {
 }
 
 #[test]
-fn the_last_read_that_an_input_may_take(rt: HostRuntime) {
+fn as_many_reads_as_an_input_may_take(rt: HostRuntime) {
     let mut reader = Interrupted { reads: 999_999_999 };
     let input = read_all(rt.alloc(), &mut reader).expect(&rt, "an input");
     expect(&rt, input.is_empty(), "the last read");
-}
-
-#[test]
-fn one_read_more_than_an_input_may_take(rt: HostRuntime) {
     let mut reader = Interrupted {
         reads: 1_000_000_000,
     };

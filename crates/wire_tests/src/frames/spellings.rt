@@ -1,64 +1,30 @@
 //! Frames that are spelled as they should be, and read back.
 use super::*;
-use crate::fixtures::{cents, name, vectors, wire_reply};
+use crate::fixtures::{ask, cents, entry, name, vectors, wire_reply};
 use sb_calls::{Call, Reply};
 use sb_frames::AskOutcome;
 
-#[test]
-fn frames_are_spelled_so(rt: HostRuntime) {
-    are_spelled(&rt, &vectors(&rt));
+// Checks the frame's spelling, that each proper beginning of it is too short, and that a byte more
+// isn't looked at.
+fn is_spelled(rt: &impl Abort, frame: &Frame, spelling: Vec<u8>, what: &str) {
+    both_ways(rt, *frame, &spelling, what);
+    for end in 0..spelling.len() {
+        is_refused(rt, &spelling[..end], FrameFault::Short, what);
+    }
+    let size = spelling.len();
+    let mut longer = spelling;
+    longer.push(255).expect(rt, "memory for a byte");
+    assert!(rt; decode(&longer) == Ok((*frame, size)), "{what}");
 }
 
-// The frame is decoded from the front of these bytes; the last one isn't part of it.
-fn is_in_front(rt: &impl Abort, frame: Frame, bytes: &[u8]) {
-    assert!(rt; decode(bytes) == Ok((frame, bytes.len().saturating_sub(1))));
-}
-
 #[test]
-fn bytes_after_a_spelling_are_not_looked_at(rt: HostRuntime) {
+fn frames_worked_by_hand(rt: HostRuntime) {
     for (frame, digits) in vectors(&rt) {
-        let mut longer = bytes(&rt, digits);
-        longer.push(255).expect(&rt, "memory for a byte");
-        is_in_front(&rt, frame, &longer);
+        is_spelled(&rt, &frame, bytes(&rt, digits), digits);
     }
 }
 
-#[test]
-fn every_proper_beginning_is_short(rt: HostRuntime) {
-    for (_, digits) in vectors(&rt) {
-        let bytes = bytes(&rt, digits);
-        for end in 0..bytes.len() {
-            is_refused(&rt, &bytes[..end], FrameFault::Short, digits);
-        }
-    }
-}
-
-#[test]
-fn an_ack_and_a_have_by_hand(rt: HostRuntime) {
-    let (replica, length) = (1, 2);
-    are_spelled(
-        &rt,
-        &[
-            (Frame::Ack { replica, length }, "000a03010000000000000002"),
-            (Frame::Have { replica, length }, "000a07010000000000000002"),
-        ],
-    );
-    for (digits, fault) in [
-        ("000a030100000000000000", FrameFault::Short),
-        ("000a070100000000000000", FrameFault::Short),
-        ("000b0301000000000000000200", FrameFault::BadLength),
-        ("000b0701000000000000000200", FrameFault::BadLength),
-        // With the same fields, tags of no frame: 0 and those above all others.
-        ("000a00010000000000000002", FrameFault::UnknownTag),
-        ("000a08010000000000000002", FrameFault::UnknownTag),
-        ("000a09010000000000000002", FrameFault::UnknownTag),
-        ("", FrameFault::Short),
-    ] {
-        is_refused(&rt, &bytes(&rt, digits), fault, digits);
-    }
-}
-
-// Every kind of call, each after the same number.
+// Every kind of call, each after the same number, with amounts to the limit.
 #[test]
 fn every_call_both_ways(rt: HostRuntime) {
     let alice = name(&rt, "alice");
@@ -66,12 +32,12 @@ fn every_call_both_ways(rt: HostRuntime) {
     for (call, body) in [
         (Call::Balance(bob), "02 0000000000000009 01 03 626f62"),
         (
-            Call::DepositChecking(bob, cents(&rt, 1)),
-            "02 0000000000000009 02 03 626f62 0000000000000001",
+            Call::DepositChecking(bob, cents(&rt, 1_000_000_000_000)),
+            "02 0000000000000009 02 03 626f62 000000e8d4a51000",
         ),
         (
-            Call::TransactSavings(bob, cents(&rt, -1)),
-            "02 0000000000000009 03 03 626f62 ffffffffffffffff",
+            Call::TransactSavings(bob, cents(&rt, -1_000_000_000_000)),
+            "02 0000000000000009 03 03 626f62 ffffff172b5af000",
         ),
         (
             Call::Amalgamate(bob, alice),
@@ -82,18 +48,26 @@ fn every_call_both_ways(rt: HostRuntime) {
             "02 0000000000000009 05 03 626f62 0000000000000100",
         ),
         (
-            Call::SendPayment(bob, alice, cents(&rt, 257)),
-            "02 0000000000000009 06 03 626f62 05 616c696365 0000000000000101",
+            Call::SendPayment(bob, alice, cents(&rt, -1)),
+            "02 0000000000000009 06 03 626f62 05 616c696365 ffffffffffffffff",
         ),
     ] {
-        have_bodies(&rt, &[(Frame::Entry { number: 9, call }, body)]);
+        have_bodies(&rt, &[(entry(9, &call), body)]);
     }
 }
 
+// Totals go to their limit.
 #[test]
 fn every_reply_both_ways(rt: HostRuntime) {
     for (shown, body) in [
-        (Reply::Shown(-2), "04 0000000000000009 00 fffffffffffffffe"),
+        (
+            Reply::Shown(2_000_000_000_000),
+            "04 0000000000000009 00 000001d1a94a2000",
+        ),
+        (
+            Reply::Shown(-2_000_000_000_000),
+            "04 0000000000000009 00 fffffe2e56b5e000",
+        ),
         (Reply::Done, "04 0000000000000009 01 0000000000000000"),
         (Reply::Penalised, "04 0000000000000009 02 0000000000000000"),
         (Reply::NoCustomer, "04 0000000000000009 03 0000000000000000"),
@@ -109,30 +83,53 @@ fn every_reply_both_ways(rt: HostRuntime) {
         (Reply::OverLimit, "04 0000000000000009 07 0000000000000000"),
     ] {
         let reply = wire_reply(&rt, shown);
-        assert!(rt; reply.reply() == shown, "{body}");
         have_bodies(&rt, &[(Frame::Answer { number: 9, reply }, body)]);
     }
 }
 
+// The longest names and the greatest numbers: bodies of 52 bytes, and of 60.
 #[test]
-fn every_outcome_both_ways(rt: HostRuntime) {
-    let replied = AskOutcome::Replied(wire_reply(&rt, Reply::OverLimit));
-    for (outcome, body) in [
-        (replied, "05 00000001 00000002 00 07 0000000000000000"),
-        (
-            AskOutcome::Mismatch,
-            "05 00000001 00000002 01 00 0000000000000000",
-        ),
-        (
-            AskOutcome::LogFull,
-            "05 00000001 00000002 02 00 0000000000000000",
-        ),
-    ] {
-        let frame = Frame::Outcome {
-            client: 1,
-            request: 2,
-            outcome,
-        };
-        have_bodies(&rt, &[(frame, body)]);
-    }
+fn fields_at_the_ends_of_their_ranges(rt: HostRuntime) {
+    let longest = name(&rt, "abcdefghijklmnopqrst");
+    let amalgamation = Call::Amalgamate(longest, longest);
+    let payment = Call::SendPayment(longest, longest, cents(&rt, -1));
+    have_bodies(
+        &rt,
+        &[
+            (
+                entry(u64::MAX, &amalgamation),
+                "02 ffffffffffffffff 04 \
+                 14 6162636465666768696a6b6c6d6e6f7071727374 14 6162636465666768696a6b6c6d6e6f7071727374",
+            ),
+            (
+                ask(0, u32::MAX, &payment),
+                "01 00000000 ffffffff 06 \
+                 14 6162636465666768696a6b6c6d6e6f7071727374 14 6162636465666768696a6b6c6d6e6f7071727374 \
+                 ffffffffffffffff",
+            ),
+            (
+                Frame::Outcome {
+                    client: u32::MAX,
+                    request: 0,
+                    outcome: AskOutcome::LogFull,
+                },
+                "05 ffffffff 00000000 02 00 0000000000000000",
+            ),
+            (
+                Frame::Outcome {
+                    client: 1,
+                    request: 2,
+                    outcome: AskOutcome::Mismatch,
+                },
+                "05 00000001 00000002 01 00 0000000000000000",
+            ),
+            (
+                Frame::Have {
+                    replica: u8::MAX,
+                    length: u64::MAX,
+                },
+                "07 ff ffffffffffffffff",
+            ),
+        ],
+    );
 }

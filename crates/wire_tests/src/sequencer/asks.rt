@@ -3,52 +3,23 @@ use super::*;
 use sb_calls::{Call, Key};
 
 #[test]
-fn a_request_keeps_its_number(rt: HostRuntime) {
-    play_steps(
-        &rt,
-        1,
-        &[
-            Step::Ask(7, 3, "alice", Ok(Numbered::New(1))),
-            Step::Ask(7, 3, "alice", Ok(Numbered::Repeat(1))),
-            Step::Ask(7, 3, "bob", Err(AskFault::Mismatch(1))),
-            Step::Ask(7, 3, "alice", Ok(Numbered::Repeat(1))),
-            Step::Length(1),
-        ],
-    );
-}
-
-#[test]
 fn numbers_requests_in_the_order_of_first_asks(rt: HostRuntime) {
     play_steps(
         &rt,
         1,
         &[
+            Step::Reserve(1_000_000),
+            Step::NumberOf(2, 1, None),
             Step::Ask(2, 1, "alice", Ok(Numbered::New(1))),
             Step::Ask(1, 1, "alice", Ok(Numbered::New(2))),
             Step::Ask(2, 2, "bob", Ok(Numbered::New(3))),
             Step::Ask(1, 1, "alice", Ok(Numbered::Repeat(2))),
-            Step::Ask(1, 2, "bob", Ok(Numbered::New(4))),
             Step::Ask(2, 2, "alice", Err(AskFault::Mismatch(3))),
-            Step::Ask(2, 1, "alice", Ok(Numbered::Repeat(1))),
-            Step::Ask(0, u32::MAX, "bob", Ok(Numbered::New(5))),
-            Step::Length(5),
-        ],
-    );
-}
-
-#[test]
-fn shows_calls_by_number(rt: HostRuntime) {
-    play_steps(
-        &rt,
-        1,
-        &[
-            Step::Length(0),
-            Step::Shows(1, None),
-            Step::Ask(1, 1, "alice", Ok(Numbered::New(1))),
-            Step::Shows(0, None),
-            Step::Shows(1, Some("alice")),
-            Step::Shows(2, None),
-            Step::Shows(u64::MAX, None),
+            Step::Ask(0, u32::MAX, "bob", Ok(Numbered::New(4))),
+            Step::Reserve(3),
+            Step::Length(4),
+            Step::NumberOf(2, 2, Some(3)),
+            Step::Shows(3, Some("bob")),
         ],
     );
 }
@@ -63,7 +34,6 @@ fn a_full_log_takes_repeats_alone(rt: HostRuntime) {
             Step::Ask(1, 1_000_000, "alice", Err(AskFault::LogFull)),
             Step::Ask(1, 0, "alice", Ok(Numbered::Repeat(1))),
             Step::Ask(1, 0, "bob", Err(AskFault::Mismatch(1))),
-            Step::Ask(1, 999_999, "alice", Ok(Numbered::Repeat(1_000_000))),
             Step::Length(1_000_000),
             Step::Shows(1_000_000, Some("alice")),
             Step::Shows(1_000_001, None),
@@ -71,27 +41,18 @@ fn a_full_log_takes_repeats_alone(rt: HostRuntime) {
     );
 }
 
-#[test]
-fn room_for_more_calls_than_a_log_takes(rt: HostRuntime) {
-    play_steps_with_room(
-        &rt,
-        1_500_000,
-        &[
-            Step::AskMany(1_000_000, "alice"),
-            Step::Ask(1, 1_000_000, "alice", Err(AskFault::LogFull)),
-            Step::Ask(1, 999_999, "alice", Ok(Numbered::Repeat(1_000_000))),
-            Step::Length(1_000_000),
-        ],
-    );
+// Asks for 40 calls of a sequencer that was opened with room for this many.
+fn asks_with_room(rt: &(impl Abort + AllocGlobal), calls: usize) {
+    let log = Sequencer::with_capacity(rt.alloc(), 1, calls).expect(rt, "memory for calls");
+    let mut log = Box::new(rt.alloc(), log).expect(rt, "memory for a sequencer");
+    asks_many(rt, &mut log, 40, "alice");
 }
 
+// Room for fewer calls than come, for more than a log takes, and for more than a machine has.
 #[test]
-fn takes_more_calls_than_it_was_opened_for(rt: HostRuntime) {
-    play_steps_with_room(&rt, 2, &[Step::AskMany(40, "alice"), Step::Length(40)]);
-}
-
-#[test]
-fn room_that_no_machine_has(rt: HostRuntime) {
+fn room_at_the_opening(rt: HostRuntime) {
+    asks_with_room(&rt, 2);
+    asks_with_room(&rt, 1_500_000);
     assert!(rt; Sequencer::with_capacity(rt.alloc(), 1, usize::MAX).is_err());
 }
 
@@ -154,23 +115,4 @@ fn answers_as_a_plain_search_does(rt: HostRuntime) {
         asks_both(&rt, &mut log, &mut plain, key, call);
     }
     shows_all(&rt, &log, &plain);
-}
-
-#[test]
-fn numbers_of_requests_and_room_for_more(rt: HostRuntime) {
-    let steps = [
-        Step::NumberOf(1, 7, None),
-        Step::Reserve(1_000_000),
-        Step::Length(0),
-        Step::Ask(1, 7, "bob", Ok(Numbered::New(1))),
-        Step::Ask(7, 1, "bob", Ok(Numbered::New(2))),
-        Step::Ask(1, 7, "carol", Err(AskFault::Mismatch(1))),
-        Step::Reserve(0),
-        Step::Reserve(3),
-        Step::NumberOf(1, 7, Some(1)),
-        Step::NumberOf(7, 1, Some(2)),
-        Step::NumberOf(7, 7, None),
-        Step::Length(2),
-    ];
-    play_steps(&rt, 1, &steps);
 }
