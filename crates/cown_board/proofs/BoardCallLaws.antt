@@ -15,7 +15,7 @@ use Rattle.cown_board.proofs.SubmitInvariant.{not_waiting}
 use Rattle.cown_board.proofs.TakeInvariant.{not_out}
 use Rattle.cown_board.proofs.FinishInvariant.{same_reply}
 use Rattle.cown_board.specs.Board.{BoardOf, length_of}
-use Rattle.cown_board.specs.BoardCalls.{BoardCall, Submitted, TakenAt, Returned, CutMade, CutDropped, HasCallEffect, Plays, StaysTrueToLog, BoardLaw, board_at_opening, submitted_by, submitted_by_all}
+use Rattle.cown_board.specs.BoardCalls.{BoardCall, Submitted, TakenAt, Returned, CutMade, CutDropped, HasCallEffect, Plays, BoardLaw, board_at_opening, submitted_by, submitted_by_all}
 use Rattle.cown_board.specs.Readiness.{conflict_at, is_clear_at, is_ready_at}
 use Rattle.cown_board.specs.State.{is_unfinished, is_waiting, state_is, unfinished_at}
 use Rattle.cown_board.specs.inner.StateTests.{waiting_at}
@@ -170,17 +170,3 @@ module _ {B : Type 0} (touches : B → List ℕ) (effect : B → List ℤ → Re
         least = least_of board;
         cut = good.cut;
       }
-
-  -- these calls and one more
-  plays_more : (old mid new : BoardOf B) (calls : List (BoardCall B)) (call : BoardCall B) → Plays touches effect old calls mid
-      → HasCallEffect touches effect mid call new
-      → Plays touches effect old (calls ++ call ∷ []) new
-  plays_more old mid new [] call played made = (new, subst (λ board. HasCallEffect touches effect board call new) played made, refl)
-  plays_more old mid new (first ∷ calls) call played made = (played.0, played.1, plays_more played.0 mid new calls call played.2 made)
-
-  pub played_by : (old new : BoardOf B) (call : BoardCall B) → HasCallEffect touches effect old call new → StaysTrueToLog touches effect old call new
-  played_by old new call made = record {
-    made = made;
-    law = λ columns base_replies calls before. board_law columns base_replies (calls ++ call ∷ []) new
-        (plays_more (board_at_opening columns base_replies) old new calls call before made);
-  }

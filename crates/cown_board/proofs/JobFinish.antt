@@ -2,7 +2,7 @@
 use Rattle.std.proofs.Common.{◌≡◌, ◌≢◌, inl, inr, ℕ, suc, ◌+◌, ◌-◌, ◌<◌, ◌≤◌, ℤ, true, false, Option, Some, List, length, get_or, take, refl, sym, ap, subst, ◌∙◌, arith}
 use Rattle.std.specs.Prelude.{IfSome, count_by, slice_get, slice_set, option_map}
 use Rattle.std.specs.VecDeque.{deque_capacity}
-use Rattle.std.proofs.lemmas.Bool.{cases_Bool, false≢true}
+use Rattle.std.proofs.lemmas.Bool.{cases_Bool}
 use Rattle.std.proofs.lemmas.Option.{slice_get_within, IfSome_then}
 use Rattle.sb_rows.specs.Balances.{Balances}
 use Rattle.sb_calls.specs.Cowns.{AreBelow, AreCownValues, IsRising, contents_of, read_cowns, write_cowns}
@@ -178,11 +178,3 @@ module _ {B : Type 0} (touches : B → List ℕ) (effect : B → List ℤ → Re
         ap (λ n. count_by is_unfinished (take n inside.states)) at ∙ none,
         keeps_all touches effect kept.keeps none ∙ ap (contents_after_first touches effect (contents_of inside.opening) inside.log) (sym at),
       )
-
-  pub refused_done : (done : DoneOf B) → ¬ IsOutHere touches effect (seen touches effect board) done
-      → (false ≡ true → IsOutHere touches effect (seen touches effect board) done) × (IsOutHere touches effect (seen touches effect board) done → false ≡ true)
-  refused_done done not = (λ h. absurd (false≢true h), λ out. absurd (not out))
-
-  pub accepted_done : (k : ℕ) (done : DoneOf B) → done.number ≡ suc (inside.base + k) → IsOutInside k done
-      → (true ≡ true → IsOutHere touches effect (seen touches effect board) done) × (IsOutHere touches effect (seen touches effect board) done → true ≡ true)
-  accepted_done k done numbered tested = (λ h. (k, out_from k done numbered tested), λ out. refl)

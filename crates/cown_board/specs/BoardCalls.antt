@@ -1,4 +1,4 @@
--- The answers to the calls of a board, one after another, and the board after them.
+-- What each call of a board does, by its answer, and what holds after a list of calls.
 use Rattle.std.specs.Prelude.{◌≡◌, ◌≢◌, ◌⊎◌, ℕ, suc, ◌<◌, ◌≤◌, ℤ, true, false, Option, Some, None, Result, Ok, Err, List, [], ◌∷◌, ◌++◌, length, slice_get}
 use Rattle.sb_rows.specs.Balances.{Balances}
 use Rattle.sb_calls.specs.Cowns.{contents_of}
@@ -15,6 +15,42 @@ use Rattle.cown_board.specs.declared.board.TheConstants.{OPEN_BEHAVIOURS}
 use Rattle.cown_board.specs.declared.cut.CutFault.{CutFault}
 use Rattle.cown_board.specs.declared.cut.CutFault.TheVariants.{Pending, OutOfMemory as NoMemory}
 use Rattle.cown_board.specs.declared.state.State.TheVariants.{Waiting, Out, Finished}
+
+-- ---- one call
+
+-- a submission: the behaviour is appended to the log under the next number, unless too much is
+-- unfinished, or else the log is full, or else memory was refused; then nothing changes
+abbrev pub Submits : {B : Type 0} → BoardOf B → B → Result ℕ SubmitFault → BoardOf B → Type 0
+Submits old behaviour (Ok number) new =
+    (unfinished_of old ≢ OPEN_BEHAVIOURS) × (length_of old ≢ LOG_CALLS) × (number ≡ suc (length_of old))
+    × (new ≡ record old { log = old.log ++ behaviour ∷ []; states = old.states ++ Waiting ∷ [] })
+Submits old behaviour (Err Busy) new = (unfinished_of old ≡ OPEN_BEHAVIOURS) × (new ≡ old)
+Submits old behaviour (Err LogFull) new =
+    (unfinished_of old ≢ OPEN_BEHAVIOURS) × (length_of old ≡ LOG_CALLS) × (new ≡ old)
+Submits old behaviour (Err OutOfMemory) new =
+    (unfinished_of old ≢ OPEN_BEHAVIOURS) × (length_of old ≢ LOG_CALLS) × (new ≡ old)
+
+-- a cut: it is made at the board's length, unless there is one already, or else memory was refused;
+-- then nothing changes
+abbrev pub MakesCut : {B : Type 0} → BoardOf B → Result ℕ CutFault → BoardOf B → Type 0
+MakesCut old (Ok number) new =
+    (old.cut ≡ None) × (number ≡ length_of old) × (new ≡ record old { cut = Some (length_of old) })
+MakesCut old (Err (Pending number)) new = (old.cut ≡ Some number) × (new ≡ old)
+MakesCut old (Err NoMemory) new = (old.cut ≡ None) × (new ≡ old)
+
+module _ {B : Type 0} (touches : B → List ℕ) (effect : B → List ℤ → Reply × List ℤ) where
+  -- the ready behaviour at an index is handed out, or nothing changes if there is none
+  abbrev pub HandsOut : BoardOf B → ℕ → Option (JobOf B) → BoardOf B → Type 0
+  HandsOut old index None new = (length (ready_positions touches old.log old.states) ≤ index) × (new ≡ old)
+  HandsOut old index (Some job) new = Takes touches effect old index job new
+
+  -- the result of a behaviour that is out is taken back, and its reply is answered; any other result
+  -- comes back, and nothing changes
+  abbrev pub TakesBack : BoardOf B → DoneOf B → Result Reply (DoneOf B) → BoardOf B → Type 0
+  TakesBack old done (Ok reply) new = Finishes touches effect old done reply new
+  TakesBack old done (Err back) new = (¬ IsOutHere touches effect old done) × (back ≡ done) × (new ≡ old)
+
+-- ---- lists of calls
 
 -- a call of a board, with its answer
 pub data BoardCall (B : Type 0) : Type 0 where
@@ -45,23 +81,10 @@ board_at_opening columns base_replies =
 module _ {B : Type 0} (touches : B → List ℕ) (effect : B → List ℤ → Reply × List ℤ) where
   -- the effect of one call, as its contract says
   abbrev pub HasCallEffect : BoardOf B → BoardCall B → BoardOf B → Type 0
-  HasCallEffect old (Submitted behaviour (Ok number)) new =
-      (unfinished_of old ≢ OPEN_BEHAVIOURS) × (length_of old ≢ LOG_CALLS) × (number ≡ suc (length_of old))
-      × (new ≡ record old { log = old.log ++ behaviour ∷ []; states = old.states ++ Waiting ∷ [] })
-  HasCallEffect old (Submitted behaviour (Err Busy)) new = (unfinished_of old ≡ OPEN_BEHAVIOURS) × (new ≡ old)
-  HasCallEffect old (Submitted behaviour (Err LogFull)) new =
-      (unfinished_of old ≢ OPEN_BEHAVIOURS) × (length_of old ≡ LOG_CALLS) × (new ≡ old)
-  HasCallEffect old (Submitted behaviour (Err OutOfMemory)) new =
-      (unfinished_of old ≢ OPEN_BEHAVIOURS) × (length_of old ≢ LOG_CALLS) × (new ≡ old)
-  HasCallEffect old (TakenAt index None) new =
-      (length (ready_positions touches old.log old.states) ≤ index) × (new ≡ old)
-  HasCallEffect old (TakenAt index (Some job)) new = Takes touches effect old index job new
-  HasCallEffect old (Returned done (Ok reply)) new = Finishes touches effect old done reply new
-  HasCallEffect old (Returned done (Err back)) new = (¬ IsOutHere touches effect old done) × (back ≡ done) × (new ≡ old)
-  HasCallEffect old (CutMade (Ok number)) new =
-      (old.cut ≡ None) × (number ≡ length_of old) × (new ≡ record old { cut = Some (length_of old) })
-  HasCallEffect old (CutMade (Err (Pending number))) new = (old.cut ≡ Some number) × (new ≡ old)
-  HasCallEffect old (CutMade (Err NoMemory)) new = (old.cut ≡ None) × (new ≡ old)
+  HasCallEffect old (Submitted behaviour answer) new = Submits old behaviour answer new
+  HasCallEffect old (TakenAt index answer) new = HandsOut touches effect old index answer new
+  HasCallEffect old (Returned done answer) new = TakesBack touches effect old done answer new
+  HasCallEffect old (CutMade answer) new = MakesCut old answer new
   HasCallEffect old CutDropped new = new ≡ record old { cut = None }
 
   -- the effect of these calls, one after another
@@ -89,11 +112,3 @@ module _ {B : Type 0} (touches : B → List ℕ) (effect : B → List ℤ → Re
   abbrev pub BoardLaw : Type 0
   BoardLaw = (columns : Balances) (base_replies : List Reply) (calls : List (BoardCall B)) (board : BoardOf B)
       → Plays (board_at_opening columns base_replies) calls board → IsTrueToLog columns base_replies calls board
-
-  -- the call has its effect; and if the board is true to its log after some calls, it is after this
-  -- one too
-  pub record StaysTrueToLog (old : BoardOf B) (call : BoardCall B) (new : BoardOf B) : Type 0 where
-    pub made : HasCallEffect old call new
-    pub law : (columns : Balances) (base_replies : List Reply) (calls : List (BoardCall B))
-        → Plays (board_at_opening columns base_replies) calls old
-        → IsTrueToLog columns base_replies (calls ++ call ∷ []) new

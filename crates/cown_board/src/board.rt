@@ -1,11 +1,10 @@
 //! The board.
-ghost use Rattle.std.specs.Prelude.{◌≡◌, ◌≢◌, ◌↔◌, ◌<◌, ◌≤◌, ◌+◌, ◌-◌, ◌++◌, [], ◌∷◌, suc, length, slice_get, option_map, ℕ, IsTrue, IfOk, IfSome, OnOk, OnErr, IsErrOf, IsOk, Some, None, Ok, Err, MatchOption, MatchResult, vec_len, vec_capacity};
+ghost use Rattle.std.specs.Prelude.{◌≡◌, ◌≢◌, ◌↔◌, ◌<◌, ◌≤◌, ◌+◌, ◌-◌, [], length, option_map, IsTrue, IfOk, IfSome, OnOk, OnErr, Some, None, MatchOption, vec_len, vec_capacity};
 ghost use Rattle.sb_rows.specs.Balances.{IsBalances};
 ghost use Rattle.sb_calls.specs.Cowns.{AreBelow, contents_of};
 ghost use Rattle.sb_calls.specs.SerialRun.{reply_by_log};
-ghost use Rattle.cown_board.specs.Board.{BoardOf, length_of, unfinished_of, reply_in, Takes, Finishes, IsOutHere, IsAfterAll, AreCutColumns};
-ghost use Rattle.cown_board.specs.BoardCalls.{StaysTrueToLog, Submitted, TakenAt, Returned, CutMade, CutDropped};
-ghost use Rattle.cown_board.specs.Readiness.{ready_positions};
+ghost use Rattle.cown_board.specs.Board.{length_of, unfinished_of, reply_in, IsAfterAll, AreCutColumns};
+ghost use Rattle.cown_board.specs.BoardCalls.{HandsOut, MakesCut, Submits, TakesBack};
 
 use crate::acceptance::{is_out_at, position_of};
 use crate::cut::{Cut, CutFault, update_cut};
@@ -157,19 +156,7 @@ impl<B: Behaviour> Board<B> {
     #[inline(always)]
     pub fn submit(&mut self, behaviour: B) -> Result<u64, SubmitFault>
         requires { AreBelow (length (contents_of self.old.opening)) (B.touches behaviour) }
-        ensures number { IfOk result (λ number. number ≡ suc (length_of self.old)) }
-        ensures ok { OnOk result (self.new ≡ record self.old {
-          log = self.old.log ++ behaviour ∷ [];
-          states = self.old.states ++ State.Waiting ∷ [];
-        }) }
-        ensures err { OnErr result (self.new ≡ self.old) }
-        ensures busy { IsErrOf result SubmitFault.Busy ↔ (unfinished_of self.old ≡ OPEN_BEHAVIOURS) }
-        ensures full { IsErrOf result SubmitFault.LogFull ↔
-            ((unfinished_of self.old ≢ OPEN_BEHAVIOURS) × (length_of self.old ≡ LOG_CALLS)) }
-        // If the board is true to its log after some calls, it is after this one too.
-        ensures played { MatchResult result
-            (λ number. StaysTrueToLog B.touches B.effect self.old (Submitted behaviour (Ok number)) self.new)
-            (λ fault. StaysTrueToLog B.touches B.effect self.old (Submitted behaviour (Err fault)) self.new) }
+        ensures made { Submits self.old behaviour result self.new }
     {
         if self.unfinished == OPEN_BEHAVIOURS {
             return Err(SubmitFault::Busy);
@@ -199,13 +186,7 @@ impl<B: Behaviour> Board<B> {
     // Inlined, as `finish` is, so that jobs and results aren't passed through memory.
     #[inline(always)]
     pub fn take_at(&mut self, index: usize) -> Option<Job<B>>
-        ensures outcome { MatchOption result
-            ((length (ready_positions B.touches self.old.log self.old.states) ≤ index) × (self.new ≡ self.old))
-            (λ job. Takes B.touches B.effect self.old index job self.new) }
-        // If the board is true to its log after some calls, it is after this one too.
-        ensures played { MatchOption result
-            (StaysTrueToLog B.touches B.effect self.old (TakenAt index None) self.new)
-            (λ job. StaysTrueToLog B.touches B.effect self.old (TakenAt index (Some job)) self.new) }
+        ensures made { HandsOut B.touches B.effect self.old index result self.new }
     {
         let position = self
             .links
@@ -222,14 +203,7 @@ impl<B: Behaviour> Board<B> {
     /// with.
     #[inline(always)]
     pub fn finish(&mut self, done: Done<B>) -> Result<Reply, Done<B>>
-        ensures accepted { IsOk result ↔ IsOutHere B.touches B.effect self.old done }
-        ensures outcome { MatchResult result
-            (λ reply. Finishes B.touches B.effect self.old done reply self.new)
-            (λ back. (back ≡ done) × (self.new ≡ self.old)) }
-        // If the board is true to its log after some calls, it is after this one too.
-        ensures played { MatchResult result
-            (λ reply. StaysTrueToLog B.touches B.effect self.old (Returned done (Ok reply)) self.new)
-            (λ back. StaysTrueToLog B.touches B.effect self.old (Returned done (Err back)) self.new) }
+        ensures made { TakesBack B.touches B.effect self.old done result self.new }
     {
         let number = done.number();
         let Some(position) = position_of(self.base, self.log.len(), number) else {
@@ -303,14 +277,7 @@ impl<B: Behaviour> Board<B> {
     /// Fails with the first fault that holds, in the order of [`CutFault`]'s variants; then the
     /// board stays as it was.
     pub fn cut(&mut self) -> Result<u64, CutFault>
-        ensures number { IfOk result (λ number. number ≡ length_of self.old) }
-        ensures ok { OnOk result ((self.old.cut ≡ None) ×
-            (self.new ≡ record self.old { cut = Some (length_of self.old) })) }
-        ensures err { OnErr result (self.new ≡ self.old) }
-        ensures pending { (number : ℕ) →
-            IsErrOf result (CutFault.Pending number) ↔ (self.old.cut ≡ Some number) }
-        // If the board is true to its log after some calls, it is after this one too.
-        ensures played { StaysTrueToLog B.touches B.effect self.old (CutMade result) self.new }
+        ensures made { MakesCut self.old result self.new }
     {
         let number = self.length();
         if let Some(pending) = self.cut_length() {
@@ -358,9 +325,7 @@ impl<B: Behaviour> Board<B> {
 
     /// Drops the cut, if there is one.
     pub fn drop_cut(&mut self)
-        ensures state { self.new ≡ record self.old { cut = None } }
-        // If the board is true to its log after some calls, it is after this one too.
-        ensures played { StaysTrueToLog B.touches B.effect self.old CutDropped self.new }
+        ensures { self.new ≡ record self.old { cut = None } }
     {
         self.cut = None;
     }

@@ -1,5 +1,5 @@
 //! What runs behaviours: a board, or an owner of one.
-ghost use Rattle.std.specs.Prelude.{◌≡◌, ◌≢◌, ◌<◌, ◌≤◌, ◌-◌, ◌↔◌, length, IsTrue, IsOk, IfOk, IfSome, OnErr, Some, None, Ok, Err, MatchOption, MatchResult};
+ghost use Rattle.std.specs.Prelude.{◌≡◌, ◌≢◌, ◌<◌, ◌≤◌, ◌-◌, ◌↔◌, length, IsTrue, IfOk, IfSome, OnErr, Some, MatchOption};
 ghost use Rattle.std.specs.List.{All};
 ghost use Rattle.sb_rows.specs.Balances.{IsBalances};
 ghost use Rattle.sb_calls.specs.Behaviour.{declared_cowns, effect_of};
@@ -7,9 +7,8 @@ ghost use Rattle.sb_calls.specs.Cowns.{contents_of};
 ghost use Rattle.sb_calls.specs.Replies.{IsReply};
 ghost use Rattle.sb_calls.specs.SerialRun.{reply_by_log};
 ghost use Rattle.sb_calls.specs.declared.op.Op.{Op as AnyOp};
-ghost use Rattle.cown_board.specs.Board.{BoardOf, length_of, unfinished_of, reply_in, Takes, Finishes, IsOutHere, IsAfterAll};
-ghost use Rattle.cown_board.specs.BoardCalls.{StaysTrueToLog, TakenAt, Returned};
-ghost use Rattle.cown_board.specs.Readiness.{ready_positions};
+ghost use Rattle.cown_board.specs.Board.{BoardOf, length_of, unfinished_of, reply_in, IsAfterAll};
+ghost use Rattle.cown_board.specs.BoardCalls.{HandsOut, TakesBack};
 
 use crate::board::Board;
 use crate::job::{Done, Job};
@@ -34,29 +33,12 @@ pub trait Runs {
 
     /// Hands out the ready op that has this many ready ones before it, as [`Board::take_at`] does.
     fn take_at(&mut self, index: usize) -> Option<Job<Op>>
-        ensures outcome { MatchOption result
-            ((length (ready_positions declared_cowns (board self.old).log (board self.old).states) ≤ index) ×
-            (board self.new ≡ board self.old))
-            (λ job. Takes declared_cowns effect_of (board self.old) index job (board self.new)) }
-        // If the board is true to its log after some calls on it, it is after this one too.
-        ensures played { MatchOption result
-            (StaysTrueToLog declared_cowns effect_of (board self.old) (TakenAt index None) (board self.new))
-            (λ job. StaysTrueToLog declared_cowns effect_of (board self.old)
-            (TakenAt index (Some job)) (board self.new)) }
+        ensures made { HandsOut declared_cowns effect_of (board self.old) index result (board self.new) }
         ensures rest { rest self.new ≡ rest self.old };
 
     /// Takes back the result of an op, as [`Board::finish`] does.
     fn finish(&mut self, done: Done<Op>) -> Result<Reply, Done<Op>>
-        ensures accepted { IsOk result ↔ IsOutHere declared_cowns effect_of (board self.old) done }
-        ensures outcome { MatchResult result
-            (λ reply. Finishes declared_cowns effect_of (board self.old) done reply (board self.new))
-            (λ back. (back ≡ done) × (board self.new ≡ board self.old)) }
-        // If the board is true to its log after some calls on it, it is after this one too.
-        ensures played { MatchResult result
-            (λ reply. StaysTrueToLog declared_cowns effect_of (board self.old)
-            (Returned done (Ok reply)) (board self.new))
-            (λ back. StaysTrueToLog declared_cowns effect_of (board self.old)
-            (Returned done (Err back)) (board self.new)) }
+        ensures made { TakesBack declared_cowns effect_of (board self.old) done result (board self.new) }
         ensures rest { rest self.new ≡ rest self.old };
 
     /// The board, for reading.

@@ -1,11 +1,12 @@
 -- A board after an op was handed out, executed and finished at once.
-use Rattle.std.proofs.Common.{◌≡◌, ℕ, ◌<◌, ℤ, false, Result, Ok, Err, List, sym, ap, ◌∙◌, arith}
-use Rattle.std.specs.Prelude.{◌↔◌, IsOk, is_ok, MatchResult}
+use Rattle.std.proofs.Common.{◌≡◌, ℕ, ◌<◌, ℤ, false, Result, Ok, Err, List, refl, sym, ap, ◌∙◌, arith}
+use Rattle.std.specs.Prelude.{IsOk, is_ok}
 use Rattle.std.proofs.lemmas.Bool.{true≢false}
 use Rattle.sb_calls.specs.Behaviour.{declared_cowns, effect_of}
 use Rattle.sb_calls.specs.declared.op.Op.{Op}
 use Rattle.sb_calls.specs.declared.reply.Reply.{Reply}
-use Rattle.cown_board.specs.Board.{BoardOf, unfinished_of, IsOutHere, Takes, Finishes}
+use Rattle.cown_board.specs.Board.{BoardOf, unfinished_of, Takes, Finishes}
+use Rattle.cown_board.specs.BoardCalls.{TakesBack}
 use Rattle.cown_board.specs.Job.{JobOf, DoneOf}
 use Rattle.cown_workers.proofs.BoardSteps.{PreservesLog_trans, Takes-drains, Finishes-drains, Takes-counts, Finishes-counts, Takes-here, HasNoneOut-again}
 use Rattle.cown_workers.specs.Draining.{PreservesLog, IsResultOf, HasNoneOut, RunsInPlace}
@@ -23,24 +24,20 @@ pub record CarriesOut (old new : BoardOf Op) : Type 0 where
   pub none_out : HasNoneOut old → HasNoneOut new
 
 module _ (touches : Op → List ℕ) (effect : Op → List ℤ → Reply × List ℤ) where
-  -- the board's answer to the result of what it just handed out
-  pub accepts : {old mid : BoardOf Op} {index : ℕ} {job back : JobOf Op} {done : DoneOf Op} (answer : Result Reply (DoneOf Op))
-      → Takes touches effect old index job mid → back ≡ job → IsResultOf done back → (IsOk answer ↔ IsOutHere touches effect mid done) → IsOk answer
-  accepts {old} {mid} {index} {job} {back} {done} answer takes same of accepted =
-      accepted.1 (Takes-here touches effect done takes (of.0 ∙ ap (λ j. j.number) same, of.1 ∙ ap (λ j. j.behaviour) same, of.2 ∙ ap (λ j. j.inputs) same))
-
-  pub finishes_of : {mid new : BoardOf Op} {done : DoneOf Op} (answer : Result Reply (DoneOf Op)) → IsOk answer
-      → MatchResult answer (λ reply. Finishes touches effect mid done reply new) (λ back. (back ≡ done) × (new ≡ mid))
-      → (reply : Reply) × Finishes touches effect mid done reply new
-  finishes_of (Ok reply) ok outcome = (reply, outcome)
-  finishes_of (Err back) ok outcome = absurd (true≢false (sym ok))
+  -- the result of what was just handed out is accepted, and finished
+  pub finished : {old mid new : BoardOf Op} {index : ℕ} {job back : JobOf Op} {done : DoneOf Op} (answer : Result Reply (DoneOf Op))
+      → Takes touches effect old index job mid → back ≡ job → IsResultOf done back → TakesBack touches effect mid done answer new
+      → IsOk answer × ((reply : Reply) × Finishes touches effect mid done reply new)
+  finished (Ok reply) takes same of made = (refl, (reply, made))
+  finished {old} {mid} {new} {index} {job} {back} {done} (Err refused) takes same of made =
+      absurd (made.0 (Takes-here touches effect done takes
+      (of.0 ∙ ap (λ j. j.number) same, of.1 ∙ ap (λ j. j.behaviour) same, of.2 ∙ ap (λ j. j.inputs) same)))
 
   pub carried : {old mid new : BoardOf Op} {index : ℕ} {job back : JobOf Op} {done : DoneOf Op} (answer : Result Reply (DoneOf Op))
-      → Takes touches effect old index job mid → back ≡ job → IsResultOf done back → (IsOk answer ↔ IsOutHere touches effect mid done)
-      → MatchResult answer (λ reply. Finishes touches effect mid done reply new) (λ back. (back ≡ done) × (new ≡ mid))
+      → Takes touches effect old index job mid → back ≡ job → IsResultOf done back → TakesBack touches effect mid done answer new
       → CarriesOut old new
-  carried {old} {mid} {new} answer takes same of accepted outcome =
-      let (reply, finishes) = finishes_of answer (accepts answer takes same of accepted) outcome in
+  carried {old} {mid} {new} answer takes same of made =
+      let finishes = (finished answer takes same of made).1.1 in
       let first = Takes-counts touches effect takes in
       let second = Finishes-counts touches effect finishes in
       record {
@@ -52,11 +49,10 @@ module _ (touches : Op → List ℕ) (effect : Op → List ℤ → Reply × List
 
 -- with its job, if that came back
 pub ran_in_place : {old mid new : BoardOf Op} {job back : JobOf Op} {done : DoneOf Op} (answer : Result Reply (DoneOf Op))
-    → Takes declared_cowns effect_of old 0 job mid → back ≡ job → IsResultOf done back → (IsOk answer ↔ IsOutHere declared_cowns effect_of mid done)
-    → MatchResult answer (λ reply. Finishes declared_cowns effect_of mid done reply new) (λ back. (back ≡ done) × (new ≡ mid))
-    → RunsInPlace old job new
-ran_in_place {old} {mid} {new} {job} {back} {done} answer takes same of accepted outcome =
-    let (reply, finishes) = finishes_of declared_cowns effect_of answer (accepts declared_cowns effect_of answer takes same of accepted) outcome in
+    → Takes declared_cowns effect_of old 0 job mid → back ≡ job → IsResultOf done back
+    → TakesBack declared_cowns effect_of mid done answer new → RunsInPlace old job new
+ran_in_place {old} {mid} {new} {job} {back} {done} answer takes same of made =
+    let (reply, finishes) = (finished declared_cowns effect_of answer takes same of made).1 in
     record {
       taken = mid;
       takes = takes;

@@ -1,10 +1,8 @@
 -- What a replica makes of bytes from the network.
 use Rattle.std.specs.Prelude.{◌≡◌, ℕ, suc, ◌==◌, if◌then◌else◌, Option, option_map, Result, Ok, Err, List, length}
-use Rattle.sb_calls.specs.Behaviour.{declared_cowns, effect_of}
 use Rattle.sb_calls.specs.Op.{op_of}
 use Rattle.sb_calls.specs.declared.op.Op.{Op}
 use Rattle.cown_board.specs.Board.{BoardOf, length_of}
-use Rattle.cown_board.specs.BoardCalls.{StaysTrueToLog, Submitted}
 use Rattle.sb_frames.specs.Decoding.{decode_result}
 use Rattle.sb_frames.specs.declared.fault.FrameFault.{FrameFault}
 use Rattle.sb_frames.specs.declared.fault.FrameFault.TheVariants.{BadLength}
@@ -74,8 +72,3 @@ IsReplicaFaultOf replica bytes (fault.BadFrame frame) = whole_frame bytes ≡ Er
 IsReplicaFaultOf replica bytes fault.OutOfMemory =
     (entry : Frame) × (number : ℕ) × (whole_frame bytes ≡ Ok entry)
     × (frame_answer replica.board entry ≡ Accepted number)
-
--- an op was appended to the log, under this number
-pub record Accepts (old : BoardOf Op) (number : ℕ) (new : BoardOf Op) : Type 0 where
-  pub op : Op
-  pub played : StaysTrueToLog declared_cowns effect_of old (Submitted op (Ok number)) new

@@ -1,9 +1,9 @@
 //! Frames from the network.
-ghost use Rattle.std.specs.Prelude.{◌≡◌, ℕ, suc, Ok, Some, IfOk, IfErr, OnErr, MatchResult, option_map};
+ghost use Rattle.std.specs.Prelude.{◌≡◌, ℕ, suc, Some, IfOk, IfErr, OnErr, MatchResult, option_map};
 ghost use Rattle.cown_board.specs.Board.{length_of};
 ghost use Rattle.sb_replica_log.specs.Offers.{after_advance};
 ghost use Rattle.sb_replica.specs.Frames as spec;
-ghost use Rattle.sb_replica.specs.Frames.{Accepts, ReceivesBytes, IsReplicaFaultOf, after_frame, frame_answer, next_entry_answer};
+ghost use Rattle.sb_replica.specs.Frames.{ReceivesBytes, IsReplicaFaultOf, after_frame, frame_answer, next_entry_answer};
 ghost use Rattle.sb_replica.specs.Replica.{log_of, with_log};
 ghost use Rattle.sb_replica.specs.declared.heard.Heard.TheVariants as heard;
 
@@ -59,9 +59,6 @@ impl<S: CheckpointStore> Replica<S> {
         ensures outcome { MatchResult result
             (λ heard. ReceivesBytes self.old bytes.now heard self.new)
             (λ fault. IsReplicaFaultOf self.old bytes.now fault × (self.new ≡ self.old)) }
-        // Whatever calls its board has had, including this one, the board is true to its log.
-        ensures played { (number : ℕ) → result ≡ Ok (heard.Accepted number) →
-            Accepts self.old.board number self.new.board }
     {
         let frame = match whole_frame(bytes) {
             Ok(frame) => frame,
@@ -81,9 +78,6 @@ impl<S: CheckpointStore> Replica<S> {
         ensures state { MatchResult result
             (λ answer. self.new ≡ with_log self.old (after_frame self.old.names (log_of self.old) frame.now))
             (λ refused. self.new ≡ self.old) }
-        // Whatever calls its board has had, including this one, the board is true to its log.
-        ensures played { (number : ℕ) → result ≡ Ok (heard.Accepted number) →
-            Accepts self.old.board number self.new.board }
     {
         let Frame::Entry { number, call } = frame else {
             return Ok(Heard::Ignored);
@@ -103,9 +97,6 @@ impl<S: CheckpointStore> Replica<S> {
         ensures state { MatchResult result
             (λ answer. self.new ≡ with_log self.old (after_advance (log_of self.old)))
             (λ fault. self.new ≡ self.old) }
-        // Whatever calls its board has had, including this one, the board is true to its log.
-        ensures played { (number : ℕ) → result ≡ Ok (Some (heard.Accepted number)) →
-            Accepts self.old.board number self.new.board }
     {
         let next = self.log.length() + 1;
         let Ok(offered) = self.log.advance() else {

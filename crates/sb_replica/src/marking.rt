@@ -4,7 +4,7 @@ ghost use Rattle.std.specs.List.{All};
 ghost use Rattle.sb_calls.specs.Replies.{IsReply};
 ghost use Rattle.sb_calls.specs.Behaviour.{declared_cowns, effect_of};
 ghost use Rattle.cown_board.specs.Board.{length_of, unfinished_of, IsAfterAll};
-ghost use Rattle.cown_board.specs.BoardCalls.{CutDropped, CutMade, StaysTrueToLog};
+ghost use Rattle.cown_board.specs.BoardCalls.{MakesCut};
 ghost use Rattle.sb_checkpoint.specs.Checkpoint.{Second, SpellsInLayout};
 ghost use Rattle.sb_checkpoint.specs.Stores.{StoreDoes};
 ghost use Rattle.sb_checkpoint.specs.declared.store.StoreFault.{StoreFault as AnyFault};
@@ -26,15 +26,8 @@ impl<S: CheckpointStore> Replica<S> {
     /// Fails with the first fault that holds, in the order of [`CutFault`]'s variants; nothing
     /// changes then.
     pub fn cut(&mut self) -> Result<u64, CutFault>
-        ensures number { IfOk result (λ number. number ≡ length_of self.old.board) }
-        ensures ok { OnOk result ((self.old.board.cut ≡ None) × (self.new ≡ record self.old {
-          board = record self.old.board { cut = Some (length_of self.old.board) };
-        })) }
-        ensures err { OnErr result (self.new ≡ self.old) }
-        ensures pending { (number : ℕ) →
-            IsErrOf result (CutFault.Pending number) ↔ (self.old.board.cut ≡ Some number) }
-        // Whatever calls its board has had, including this one, the board is true to its log.
-        ensures played { StaysTrueToLog declared_cowns effect_of self.old.board (CutMade result) self.new.board }
+        ensures made { MakesCut self.old.board result self.new.board }
+        ensures rest { self.new ≡ record self.old { board = self.new.board } }
     {
         self.log.cut()
     }
@@ -49,9 +42,6 @@ impl<S: CheckpointStore> Replica<S> {
         ensures busy { IsErrOf result MarkFault.Busy ↔ (unfinished_of (up_to_cut self.old.board) ≢ 0) }
         ensures ok { IfOk result (λ size. (size ≡ length_of (up_to_cut self.old.board))
             × Puts (StoreDoes S.model) self.old (Ok tt) self.new) }
-        // Whatever calls its board has had, including this one, the board is true to its log.
-        ensures played { OnOk result
-            (StaysTrueToLog declared_cowns effect_of self.old.board CutDropped self.new.board) }
         ensures err { IfErr result (λ fault.
             IsMarkFaultOf (StoreDoes S.model) self.old fault self.new) }
     {
@@ -67,9 +57,6 @@ impl<S: CheckpointStore> Replica<S> {
         ensures busy { IsErrOf result MarkFault.Busy ↔ (unfinished_of (up_to_cut self.old.board) ≢ 0) }
         ensures ok { IfOk result (λ bytes.
             PutsBytes (StoreDoes S.model) self.old bytes.items self.new) }
-        // Whatever calls its board has had, including this one, the board is true to its log.
-        ensures played { OnOk result
-            (StaysTrueToLog declared_cowns effect_of self.old.board CutDropped self.new.board) }
         ensures err { IfErr result (λ fault.
             IsMarkFaultOf (StoreDoes S.model) self.old fault self.new) }
     {

@@ -1,9 +1,7 @@
 //! A replica, and what can be read from it.
-ghost use Rattle.std.specs.Prelude.{◌≡◌, suc, Ok, length, IfOk, OnErr, Some, MatchResult, option_map};
-ghost use Rattle.sb_calls.specs.Behaviour.{declared_cowns, effect_of};
+ghost use Rattle.std.specs.Prelude.{◌≡◌, length, IfOk, OnErr, MatchResult, option_map};
 ghost use Rattle.sb_calls.specs.Op.{IsOpWithin};
 ghost use Rattle.cown_board.specs.Board.{length_of, reply_in};
-ghost use Rattle.cown_board.specs.BoardCalls.{StaysTrueToLog, Submitted};
 ghost use Rattle.sb_checkpoint.specs.Stores.{Compares, StoreDoes, Get, GetFault};
 ghost use Rattle.sb_frames.specs.declared.frame.Frame.TheVariants as frames;
 ghost use Rattle.sb_replica_log.specs.Offers.{offer_answer, after_offer};
@@ -89,10 +87,6 @@ impl<S: CheckpointStore> Replica<S> {
         ensures state { MatchResult result
             (λ answer. self.new ≡ with_log self.old (after_offer (log_of self.old) op answer))
             (λ refused. self.new ≡ self.old) }
-        // Whatever calls its board has had, including this one, the board is true to its log.
-        ensures played { IfOk result (λ answer. answer ≡ Offered.Next →
-            StaysTrueToLog declared_cowns effect_of self.old.board
-            (Submitted op (Ok (suc (length_of self.old.board)))) self.new.board) }
     {
         self.log.offer_entry(number, op)
     }

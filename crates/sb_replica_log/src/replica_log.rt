@@ -1,9 +1,8 @@
 //! The log of a replica.
-ghost use Rattle.std.specs.Prelude.{◌≡◌, ◌↔◌, ◌<◌, ◌%◌, ℕ, length, suc, replicate, Ok, IfOk, IfSome, IsErrOf, OnOk, OnErr, Some, None, MatchResult};
-ghost use Rattle.sb_calls.specs.Behaviour.{declared_cowns, effect_of};
+ghost use Rattle.std.specs.Prelude.{◌≡◌, ◌<◌, ◌%◌, length, replicate, IfOk, IfSome, OnErr, Some, None, MatchResult};
 ghost use Rattle.sb_calls.specs.Op.{IsOpWithin};
 ghost use Rattle.cown_board.specs.Board.{length_of};
-ghost use Rattle.cown_board.specs.BoardCalls.{StaysTrueToLog, Submitted, CutMade, CutDropped};
+ghost use Rattle.cown_board.specs.BoardCalls.{MakesCut};
 ghost use Rattle.sb_replica_log.specs.Log.{none_held, next_held};
 ghost use Rattle.sb_replica_log.specs.Offers.{offer_answer, after_offer, next_offer_answer, advance_answer, after_advance};
 
@@ -77,10 +76,6 @@ impl ReplicaLog {
         ensures state { MatchResult result
             (λ answer. self.new ≡ after_offer self.old op answer)
             (λ refused. self.new ≡ self.old) }
-        // After any calls on its board, this one too, the board is true to its log.
-        ensures played { IfOk result (λ answer. answer ≡ Offered.Next →
-            StaysTrueToLog declared_cowns effect_of self.old.board
-            (Submitted op (Ok (suc (length_of self.old.board)))) self.new.board) }
     {
         let length = self.board.length();
         if number <= length {
@@ -105,10 +100,6 @@ impl ReplicaLog {
         ensures state { MatchResult result
             (λ answer. self.new ≡ after_advance self.old)
             (λ refused. self.new ≡ self.old) }
-        // After any calls on its board, this one too, the board is true to its log.
-        ensures played { IfOk result (λ answer. answer ≡ Some Offered.Next → IfSome (next_held self.old)
-            (λ op. StaysTrueToLog declared_cowns effect_of self.old.board
-            (Submitted op (Ok (suc (length_of self.old.board)))) self.new.board)) }
     {
         match self.next_held() {
             Some(op) => Ok(Some(self.take_next(op)?)),
@@ -138,9 +129,6 @@ impl ReplicaLog {
         ensures state { MatchResult result
             (λ answer. self.new ≡ after_offer self.old op answer)
             (λ refused. self.new ≡ self.old) }
-        ensures played { IfOk result (λ answer. answer ≡ Offered.Next →
-            StaysTrueToLog declared_cowns effect_of self.old.board
-            (Submitted op (Ok (suc (length_of self.old.board)))) self.new.board) }
     {
         // Its clauses say that the opening's columns are a bank's, as `submit` needs.
         let length = self.board.length();
@@ -165,25 +153,15 @@ impl ReplicaLog {
 
     /// Makes a cut at the log's length, and answers that length, as [`Board::cut`] does.
     pub fn cut(&mut self) -> Result<u64, CutFault>
-        ensures number { IfOk result (λ number. number ≡ length_of self.old.board) }
-        ensures ok { OnOk result ((self.old.board.cut ≡ None) ×
-            (self.new ≡ record self.old {
-              board = record self.old.board { cut = Some (length_of self.old.board) };
-            })) }
-        ensures err { OnErr result (self.new ≡ self.old) }
-        ensures pending { (number : ℕ) →
-            IsErrOf result (CutFault.Pending number) ↔ (self.old.board.cut ≡ Some number) }
-        // After any calls on its board, this one too, the board is true to its log.
-        ensures played { StaysTrueToLog declared_cowns effect_of self.old.board (CutMade result) self.new.board }
+        ensures made { MakesCut self.old.board result self.new.board }
+        ensures held { self.new.held ≡ self.old.held }
     {
         self.board.cut()
     }
 
     /// Drops the cut, if there is one.
     pub fn drop_cut(&mut self)
-        ensures state { self.new ≡ record self.old { board = record self.old.board { cut = None } } }
-        // After any calls on its board, this one too, the board is true to its log.
-        ensures played { StaysTrueToLog declared_cowns effect_of self.old.board CutDropped self.new.board }
+        ensures { self.new ≡ record self.old { board = record self.old.board { cut = None } } }
     {
         self.board.drop_cut();
     }

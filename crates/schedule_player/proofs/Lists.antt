@@ -48,11 +48,6 @@ pub none_here : {A : Type 0} (xs : List (Option A)) (k : ℕ) (x : Option A) →
 none_here xs k None lt is empty = get_here xs k None lt is
 none_here xs k (Some x) lt is empty = absurd (true≢false (sym empty))
 
--- no item is there
-pub no_hand : {A : Type 0} (x : Option A) → ((y : A) → x ≡ Some y → ⊥) → x ≡ None
-no_hand None not_some = refl
-no_hand (Some y) not_some = absurd (not_some y refl)
-
 -- the item at a place, put there again
 pub set_here : {A : Type 0} (xs : List A) (k : ℕ) (x : A) → slice_get xs k ≡ Some x → slice_set xs k x ≡ xs
 set_here [] k x here = refl

@@ -7,11 +7,11 @@ use Rattle.cown_workers.specs.Draining.{HandedOver}
 use Rattle.cown_workers.proofs.draining.finish_next.Goals as goal
 
 pub returns-in-Ok-clause-ok : goal.returns-in-Ok-clause-ok
-returns-in-Ok-clause-ok g c = let h = Finishes-counts declared_cowns effect_of c.in-Ok.ensures.outcome in omega (arith, h)
+returns-in-Ok-clause-ok g c = let h = Finishes-counts declared_cowns effect_of c.in-Ok.ensures.made in omega (arith, h)
 
 pub returns-in-Ok-clause-log : goal.returns-in-Ok-clause-log
-returns-in-Ok-clause-log g c = Finishes-drains declared_cowns effect_of c.in-Ok.ensures.outcome
+returns-in-Ok-clause-log g c = Finishes-drains declared_cowns effect_of c.in-Ok.ensures.made
 
 pub returns-in-Ok-clause-exchanged : goal.returns-in-Ok-clause-exchanged
 returns-in-Ok-clause-exchanged g c =
-    Exchanged-one g.C.Crew.acts (HandedOver (Some c.in-Some.done)) c.in-Some.ensures.acts (c.requires, (c.in-Ok.field-0, c.in-Ok.ensures.outcome))
+    Exchanged-one g.C.Crew.acts (HandedOver (Some c.in-Some.done)) c.in-Some.ensures.acts (c.requires, (c.in-Ok.field-0, c.in-Ok.ensures.made))

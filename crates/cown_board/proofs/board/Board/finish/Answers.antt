@@ -1,15 +1,14 @@
-use Rattle.std.proofs.Common.{◌≡◌, ◌+◌, ◌≤◌, suc, true, false, Err, length, refl, sym, ap, ◌∙◌, subst, arith}
+use Rattle.std.proofs.Common.{◌≡◌, ◌+◌, ◌≤◌, suc, Err, length, refl, sym, ap, ◌∙◌, subst, arith}
 use Rattle.std.specs.Prelude.{IfSome}
 use Rattle.std.proofs.lemmas.Bool.{both_ways}
 use Rattle.sb_calls.specs.Cowns.{AreBelow, AreCownValues, IsRising, contents_of, write_cowns}
 use Rattle.cown_queue.specs.Queues.{IsInFront, Releases, fronts_of}
-use Rattle.cown_board.proofs.JobFinish.{not_numbered, not_inside, refused_done, accepted_done, released_in_front, some_unfinished, outputs_held, board_finished, fronts_behind, room_for_fronts, cowns_of_cut, unfinished_in_cut, finishes_from}
-use Rattle.cown_board.proofs.JobTake.{declared_in_held, seen}
-use Rattle.cown_board.proofs.CallEffects.{played_refused, played_finished}
-use Rattle.cown_board.specs.Board.{BoardOf, IsOutHere}
+use Rattle.cown_board.proofs.JobFinish.{not_numbered, not_inside, released_in_front, some_unfinished, outputs_held, board_finished, fronts_behind, room_for_fronts, cowns_of_cut, unfinished_in_cut, finishes_from}
+use Rattle.cown_board.proofs.JobTake.{declared_in_held}
+use Rattle.cown_board.specs.Board.{BoardOf}
 use Rattle.cown_board.specs.inner.Links.{ComesForward}
 use Rattle.cown_board.specs.inner.CutUpdates.{UpdatesAnyCut}
-use Rattle.cown_board.specs.BoardCalls.{StaysTrueToLog, Returned}
+use Rattle.cown_board.specs.BoardCalls.{TakesBack}
 use Rattle.cown_board.proofs.board.Board.finish.Given.{Over}
 use Rattle.cown_board.proofs.board.Board.finish.Goals as goal
 use Rattle.cown_board.proofs.board.Board.finish.Goals.{After-as_slice-cowns}
@@ -22,37 +21,11 @@ numbered g c = sym c.number-number.ensures ∙ c.in-Some.ensures.1
 declared : (g : Over) (c : After-as_slice-cowns g) → c.as_slice-cowns.result.now ≡ g.B.Behaviour.touches c.args.done.behaviour
 declared g c = c.as_slice-cowns.ensures.value ∙ c.cowns-cowns.ensures ∙ ap g.B.Behaviour.touches c.behaviour.ensures
 
-pub returns-in_default-clause-accepted : goal.returns-in_default-clause-accepted
-returns-in_default-clause-accepted g c =
-    let touches = g.B.Behaviour.touches in
-    let effect = g.B.Behaviour.effect in
-    let board = c.self.invariant in
-    let done = c.args.done in
-    subst (λ (v : BoardOf g.row.B.Denot). (false ≡ true → IsOutHere touches effect v done) × (IsOutHere touches effect v done → false ≡ true)) c.self.view_is
-    (refused_done touches effect board done (not_numbered touches effect board done (λ k lt same.
-    c.in_default.ensures k (omega (arith, lt, c.len.ensures, c.self.inside.log.ok)) (c.number-number.ensures ∙ same))))
-
-pub returns-in_default-clause-outcome : goal.returns-in_default-clause-outcome
-returns-in_default-clause-outcome g c = (refl, refl)
-
 pub is_out_at-requires-clause-position : goal.is_out_at-requires-clause-position
 is_out_at-requires-clause-position g c = omega (arith, c.in-Some.ensures.0, c.len.ensures, c.self.inside.log.ok)
 
 pub is_out_at-requires-clause-cowns : goal.is_out_at-requires-clause-cowns
 is_out_at-requires-clause-cowns g c k b here = declared_in_held g.B.Behaviour.touches g.B.Behaviour.effect c.self.invariant k b here
-
-pub returns-then-not-is_out_at-clause-accepted : goal.returns-then-not-is_out_at-clause-accepted
-returns-then-not-is_out_at-clause-accepted g c =
-    let touches = g.B.Behaviour.touches in
-    let effect = g.B.Behaviour.effect in
-    let board = c.self.invariant in
-    let done = c.args.done in
-    subst (λ (v : BoardOf g.row.B.Denot). (false ≡ true → IsOutHere touches effect v done) × (IsOutHere touches effect v done → false ≡ true)) c.self.view_is
-    (refused_done touches effect board done (not_inside touches effect board c.in-Some.position done (sym c.number-number.ensures ∙ c.in-Some.ensures.1)
-    (λ inside. both_ways c.is_out_at.result c.if-not-is_out_at.true (c.is_out_at.ensures.1 inside))))
-
-pub returns-then-not-is_out_at-clause-outcome : goal.returns-then-not-is_out_at-clause-outcome
-returns-then-not-is_out_at-clause-outcome g c = (refl, refl)
 
 pub release-requires-clause-rising : goal.release-requires-clause-rising
 release-requires-clause-rising g c =
@@ -146,49 +119,37 @@ invariant_of-self g c =
     (subst (λ number. UpdatesAnyCut number (touches c.args.done.behaviour) values c.self.inside.cut c.update_cut.new.cut) c.number-number.ensures
     (subst (λ cowns. UpdatesAnyCut c.number-number.result cowns values c.self.inside.cut c.update_cut.new.cut) (declared g known) c.update_cut.ensures))
 
-pub returns-clause-accepted : goal.returns-clause-accepted
-returns-clause-accepted g c =
-    let touches = g.B.Behaviour.touches in
-    let effect = g.B.Behaviour.effect in
-    let done = c.args.done in
-    let known = (goal.at.returns-clause-accepted g c).After-as_slice-cowns in
-    subst (λ (v : BoardOf g.row.B.Denot). (true ≡ true → IsOutHere touches effect v done) × (IsOutHere touches effect v done → true ≡ true)) c.self.view_is
-    (accepted_done touches effect c.self.invariant c.in-Some.position done (numbered g known) (c.is_out_at.ensures.0 c.if-not-is_out_at.false))
-
-pub returns-clause-outcome : goal.returns-clause-outcome
-returns-clause-outcome g c =
-    let known = (goal.at.returns-clause-outcome g c).After-as_slice-cowns in
+pub returns-clause-made : goal.returns-clause-made
+returns-clause-made g c =
+    let known = (goal.at.returns-clause-made g c).After-as_slice-cowns in
     rw (sym c.self.view_is) (finishes_from g.B.Behaviour.touches g.B.Behaviour.effect c.self.invariant c.in-Some.position c.args.done
     (numbered g known) (c.is_out_at.ensures.0 c.if-not-is_out_at.false) c.into_effect-reply.result.0 c.into_effect-reply.ensures.reply
     c.number-number.result c.as_slice-cowns.result.now c.as_slice-outputs.result.now c.update_cut.new.cut c.update_cut.ensures)
 
-pub returns-in_default-clause-played : goal.returns-in_default-clause-played
-returns-in_default-clause-played g c =
+pub returns-in_default-clause-made : goal.returns-in_default-clause-made
+returns-in_default-clause-made g c =
     let touches = g.B.Behaviour.touches in
     let effect = g.B.Behaviour.effect in
     let board = c.self.invariant in
     let done = c.args.done in
-    subst (λ (v : BoardOf g.row.B.Denot). StaysTrueToLog touches effect v (Returned done (Err done)) v) c.self.view_is
-    (played_refused touches effect (seen touches effect board) done (not_numbered touches effect board done (λ k lt same.
-    c.in_default.ensures k (omega (arith, lt, c.len.ensures, c.self.inside.log.ok)) (c.number-number.ensures ∙ same))))
+    subst (λ (v : BoardOf g.row.B.Denot). TakesBack touches effect v done (Err done) v) c.self.view_is
+    (
+      not_numbered touches effect board done (λ k lt same.
+          c.in_default.ensures k (omega (arith, lt, c.len.ensures, c.self.inside.log.ok)) (c.number-number.ensures ∙ same)),
+      refl,
+      refl,
+    )
 
-pub returns-then-not-is_out_at-clause-played : goal.returns-then-not-is_out_at-clause-played
-returns-then-not-is_out_at-clause-played g c =
+pub returns-then-not-is_out_at-clause-made : goal.returns-then-not-is_out_at-clause-made
+returns-then-not-is_out_at-clause-made g c =
     let touches = g.B.Behaviour.touches in
     let effect = g.B.Behaviour.effect in
     let board = c.self.invariant in
     let done = c.args.done in
-    subst (λ (v : BoardOf g.row.B.Denot). StaysTrueToLog touches effect v (Returned done (Err done)) v) c.self.view_is
-    (played_refused touches effect (seen touches effect board) done
-    (not_inside touches effect board c.in-Some.position done (sym c.number-number.ensures ∙ c.in-Some.ensures.1)
-    (λ inside. both_ways c.is_out_at.result c.if-not-is_out_at.true (c.is_out_at.ensures.1 inside))))
-
-pub returns-clause-played : goal.returns-clause-played
-returns-clause-played g c =
-    let touches = g.B.Behaviour.touches in
-    let effect = g.B.Behaviour.effect in
-    let known = (goal.at.returns-clause-played g c).After-as_slice-cowns in
-    let finished = finishes_from touches effect c.self.invariant c.in-Some.position c.args.done
-    (numbered g known) (c.is_out_at.ensures.0 c.if-not-is_out_at.false) c.into_effect-reply.result.0 c.into_effect-reply.ensures.reply
-    c.number-number.result c.as_slice-cowns.result.now c.as_slice-outputs.result.now c.update_cut.new.cut c.update_cut.ensures in
-    rw (sym c.self.view_is) (played_finished touches effect finished)
+    subst (λ (v : BoardOf g.row.B.Denot). TakesBack touches effect v done (Err done) v) c.self.view_is
+    (
+      not_inside touches effect board c.in-Some.position done (sym c.number-number.ensures ∙ c.in-Some.ensures.1)
+          (λ inside. both_ways c.is_out_at.result c.if-not-is_out_at.true (c.is_out_at.ensures.1 inside)),
+      refl,
+      refl,
+    )

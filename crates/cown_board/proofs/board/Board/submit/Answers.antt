@@ -5,9 +5,9 @@ use Rattle.std.proofs.lemmas.Bool.{false≢true}
 use Rattle.sb_calls.specs.Cowns.{AreBelow, contents_of}
 use Rattle.cown_board.specs.Board.{BoardOf}
 use Rattle.cown_board.proofs.BoardSteps.{IsBoard-pushed, IsBoard-stays, few_ready, links_submitted, one_each}
-use Rattle.cown_board.proofs.CallEffects.{played_busy, played_full, played_no_memory, played_put}
+use Rattle.cown_board.proofs.CallEffects.{submits_busy, submits_full, submits_no_memory, submits_next}
 use Rattle.cown_board.specs.inner.Links.{AddsToLinks}
-use Rattle.cown_board.specs.BoardCalls.{StaysTrueToLog, Submitted}
+use Rattle.cown_board.specs.BoardCalls.{Submits}
 use Rattle.cown_board.specs.declared.board.SubmitFault.TheVariants.{Busy, LogFull}
 use Rattle.cown_board.specs.declared.state.State.TheVariants.{Waiting}
 use Rattle.cown_board.proofs.board.Board.submit.Goals as goal
@@ -76,60 +76,47 @@ invariant_of-self-2 g c =
     c.if-self-eq-OPEN_BEHAVIOURS.false
     (λ full. c.if-length.false (omega (arith, full, c.len-position.ensures, c.self.inside.log.ok)))
 
-pub returns-then-is_err-clause-err : goal.returns-then-is_err-clause-err
-returns-then-is_err-clause-err g c = let room = c.make_room.ensures in rw (room.log.0, room.states.0) c.self.view_is
-
-pub returns-then-is_err-2-clause-err : goal.returns-then-is_err-2-clause-err
-returns-then-is_err-2-clause-err g c = let room = c.make_room.ensures in rw (room.log.0, room.states.0) c.self.view_is
-
-pub returns-clause-ok : goal.returns-clause-ok
-returns-clause-ok g c =
-    let room = c.make_room.ensures in
-    let pushed = c.push_reserved.ensures.items ∙ ap (λ (xs : List g.row.B.Denot). xs ++ c.args.behaviour ∷ []) room.log.0 in
-    let waits = c.push_reserved-2.ensures.items ∙ ap (λ xs. xs ++ Waiting ∷ []) room.states.0 in
-    rw (pushed, waits, sym c.self.view_is) refl
-
-pub returns-then-self-eq-OPEN_BEHAVIOURS-clause-played : goal.returns-then-self-eq-OPEN_BEHAVIOURS-clause-played
-returns-then-self-eq-OPEN_BEHAVIOURS-clause-played g c =
+pub returns-then-self-eq-OPEN_BEHAVIOURS-clause-made : goal.returns-then-self-eq-OPEN_BEHAVIOURS-clause-made
+returns-then-self-eq-OPEN_BEHAVIOURS-clause-made g c =
     let touches = g.B.Behaviour.touches in
     let effect = g.B.Behaviour.effect in
-    subst (λ (v : BoardOf g.row.B.Denot). StaysTrueToLog touches effect v (Submitted c.args.behaviour (Err Busy)) v) c.self.view_is
-    (played_busy touches effect c.self.invariant c.args.behaviour c.if-self-eq-OPEN_BEHAVIOURS.true)
+    subst (λ (v : BoardOf g.row.B.Denot). Submits v c.args.behaviour (Err Busy) v) c.self.view_is
+    (submits_busy touches effect c.self.invariant c.args.behaviour c.if-self-eq-OPEN_BEHAVIOURS.true)
 
-pub returns-then-length-clause-played : goal.returns-then-length-clause-played
-returns-then-length-clause-played g c =
+pub returns-then-length-clause-made : goal.returns-then-length-clause-made
+returns-then-length-clause-made g c =
     let touches = g.B.Behaviour.touches in
     let effect = g.B.Behaviour.effect in
-    subst (λ (v : BoardOf g.row.B.Denot). StaysTrueToLog touches effect v (Submitted c.args.behaviour (Err LogFull)) v) c.self.view_is
-    (played_full touches effect c.self.invariant c.args.behaviour c.if-self-eq-OPEN_BEHAVIOURS.false
+    subst (λ (v : BoardOf g.row.B.Denot). Submits v c.args.behaviour (Err LogFull) v) c.self.view_is
+    (submits_full touches effect c.self.invariant c.args.behaviour c.if-self-eq-OPEN_BEHAVIOURS.false
     (omega (arith, c.if-length.true, c.len-position.ensures, c.self.inside.log.ok)))
 
-pub returns-then-is_err-clause-played : goal.returns-then-is_err-clause-played
-returns-then-is_err-clause-played g c =
+pub returns-then-is_err-clause-made : goal.returns-then-is_err-clause-made
+returns-then-is_err-clause-made g c =
     let touches = g.B.Behaviour.touches in
     let effect = g.B.Behaviour.effect in
     let room = c.make_room.ensures in
     rw (room.log.0, room.states.0, sym c.self.view_is)
-    (played_no_memory touches effect c.self.invariant c.args.behaviour c.if-self-eq-OPEN_BEHAVIOURS.false
+    (submits_no_memory touches effect c.self.invariant c.args.behaviour c.if-self-eq-OPEN_BEHAVIOURS.false
     (λ full. c.if-length.false (omega (arith, full, c.len-position.ensures, c.self.inside.log.ok))))
 
-pub returns-then-is_err-2-clause-played : goal.returns-then-is_err-2-clause-played
-returns-then-is_err-2-clause-played g c =
+pub returns-then-is_err-2-clause-made : goal.returns-then-is_err-2-clause-made
+returns-then-is_err-2-clause-made g c =
     let touches = g.B.Behaviour.touches in
     let effect = g.B.Behaviour.effect in
     let room = c.make_room.ensures in
     rw (room.log.0, room.states.0, sym c.self.view_is)
-    (played_no_memory touches effect c.self.invariant c.args.behaviour c.if-self-eq-OPEN_BEHAVIOURS.false
+    (submits_no_memory touches effect c.self.invariant c.args.behaviour c.if-self-eq-OPEN_BEHAVIOURS.false
     (λ full. c.if-length.false (omega (arith, full, c.len-position.ensures, c.self.inside.log.ok))))
 
-pub returns-clause-played : goal.returns-clause-played
-returns-clause-played g c =
+pub returns-clause-made : goal.returns-clause-made
+returns-clause-made g c =
     let touches = g.B.Behaviour.touches in
     let effect = g.B.Behaviour.effect in
     let room = c.make_room.ensures in
     let pushed = c.push_reserved.ensures.items ∙ ap (λ (xs : List g.row.B.Denot). xs ++ c.args.behaviour ∷ []) room.log.0 in
     let waits = c.push_reserved-2.ensures.items ∙ ap (λ xs. xs ++ Waiting ∷ []) room.states.0 in
     rw (pushed, waits, sym c.self.view_is)
-    (played_put touches effect c.self.invariant c.args.behaviour (c.self.inside.base + c.len-position.result + 1) c.if-self-eq-OPEN_BEHAVIOURS.false
+    (submits_next touches effect c.self.invariant c.args.behaviour (c.self.inside.base + c.len-position.result + 1) c.if-self-eq-OPEN_BEHAVIOURS.false
     (λ full. c.if-length.false (omega (arith, full, c.len-position.ensures, c.self.inside.log.ok)))
     (omega (arith, c.len-position.ensures, room.log.1, c.self.inside.log.ok)))

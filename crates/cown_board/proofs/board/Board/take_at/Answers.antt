@@ -4,7 +4,6 @@ use Rattle.std.proofs.lemmas.Option.{slice_get_read}
 use Rattle.sb_calls.specs.Cowns.{AreBelow, contents_of, read_cowns}
 use Rattle.cown_board.proofs.BoardSteps.{IsBoard-linked, one_each}
 use Rattle.cown_board.proofs.JobTake.{ready_within, number_below, takes_from, taken_inputs_held, board_taken, declared_in_held}
-use Rattle.cown_board.proofs.CallEffects.{played_none, played_taken}
 use Rattle.cown_board.specs.Board.{BoardOf}
 use Rattle.cown_board.specs.inner.BoardInvariant.{AreLinks}
 use Rattle.cown_board.specs.Readiness.{ready_positions}
@@ -26,20 +25,14 @@ take-requires-clause-cowns g c k cown among =
 pub take-requires-clause-limit : goal.take-requires-clause-limit
 take-requires-clause-limit g c = omega (arith, c.self.invariant.length_limit)
 
-pub returns-in_err-position-clause-outcome : goal.returns-in_err-position-clause-outcome
-returns-in_err-position-clause-outcome g c =
+pub returns-in_err-position-clause-made : goal.returns-in_err-position-clause-made
+returns-in_err-position-clause-made g c =
     let few = c.in_err-position.ensures.outcome.0 in
     rw c.from_residual.ensures (
       subst (λ (v : BoardOf g.row.B.Denot). length
           (ready_positions g.B.Behaviour.touches v.log v.states) ≤ c.args.index) c.self.view_is few,
       c.self.view_is,
     )
-
-pub returns-in_err-position-clause-played : goal.returns-in_err-position-clause-played
-returns-in_err-position-clause-played g c =
-    let few = c.in_err-position.ensures.outcome.0 in
-    rw (c.from_residual.ensures, c.self.view_is) (played_none g.B.Behaviour.touches g.B.Behaviour.effect c.args.self.now c.args.index
-    (subst (λ (v : BoardOf g.row.B.Denot). length (ready_positions g.B.Behaviour.touches v.log v.states) ≤ c.args.index) c.self.view_is few))
 
 pub index-behaviour-requires : goal.index-behaviour-requires
 index-behaviour-requires g c =
@@ -121,8 +114,8 @@ invariant_of-self-2 g c =
     (subst (λ n. AreLinks touches effect log states c.self.inside.unfinished n c.take.new.self) (one_each touches effect c.self.invariant)
     c.in_ok-position.ensures.outcome.1)
 
-pub returns-clause-outcome : goal.returns-clause-outcome
-returns-clause-outcome g c =
+pub returns-clause-made : goal.returns-clause-made
+returns-clause-made g c =
     let touches = g.B.Behaviour.touches in
     let effect = g.B.Behaviour.effect in
     let log = c.self.inside.log.items in
@@ -135,18 +128,3 @@ returns-clause-outcome g c =
     let takes = takes_from touches effect c.self.invariant c.args.index c.in_ok-position.position c.index-behaviour.result.now c.read_cowns-inputs.result.items
     ready here read in
     rw (c.new.ensures, sym c.self.view_is) takes
-
-pub returns-clause-played : goal.returns-clause-played
-returns-clause-played g c =
-    let touches = g.B.Behaviour.touches in
-    let effect = g.B.Behaviour.effect in
-    let log = c.self.inside.log.items in
-    let ready = c.in_ok-position.ensures.outcome.0 in
-    let lt = ready_within touches effect c.self.invariant c.args.index c.in_ok-position.position ready in
-    let here : slice_get log c.in_ok-position.position ≡ Some c.index-behaviour.result.now =
-    slice_get_read log (length log) c.in_ok-position.position c.index-behaviour.result.now refl lt c.index-behaviour.ensures in
-    let read : c.read_cowns-inputs.result.items ≡ read_cowns (contents_of c.self.inside.columns) (touches c.index-behaviour.result.now) =
-    c.read_cowns-inputs.ensures ∙ ap (read_cowns (contents_of c.self.inside.columns)) (c.as_slice.ensures.value ∙ c.cowns.ensures) in
-    let takes = takes_from touches effect c.self.invariant c.args.index c.in_ok-position.position c.index-behaviour.result.now c.read_cowns-inputs.result.items
-    ready here read in
-    rw (c.new.ensures, sym c.self.view_is) (played_taken touches effect takes)

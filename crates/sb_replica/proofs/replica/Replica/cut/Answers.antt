@@ -1,10 +1,8 @@
-use Rattle.std.proofs.Common.{◌≡◌, ℕ, Some, subst}
-use Rattle.std.specs.Prelude.{◌↔◌, IsErrOf}
-use Rattle.cown_board.specs.declared.cut.CutFault.TheVariants.{Pending}
+use Rattle.std.proofs.Common.{subst}
+use Rattle.cown_board.specs.BoardCalls.{MakesCut}
 use Rattle.sb_replica.specs.Replica.{ReplicaOf}
 use Rattle.sb_replica.proofs.replica.Replica.cut.Goals as goal
 
-pub returns-clause-pending : goal.returns-clause-pending
-returns-clause-pending g c =
-    subst (λ (r : ReplicaOf g.row.S.Denot). (number : ℕ) → IsErrOf c.cut.result (Pending number) ↔ (r.board.cut ≡ Some number)) c.self.view_is
-    c.cut.ensures.pending
+pub returns-clause-made : goal.returns-clause-made
+returns-clause-made g c =
+    subst (λ (r : ReplicaOf g.row.S.Denot). MakesCut r.board c.cut.result c.cut.new.self.board) c.self.view_is c.cut.ensures.made

@@ -1,8 +1,6 @@
 use Rattle.std.proofs.Common.{◌≡◌, Ok, suc, subst}
 use Rattle.std.specs.Prelude.{IfOk, OnErr}
 use Rattle.cown_board.specs.Board.{length_of}
-use Rattle.cown_board.specs.BoardCalls.{StaysTrueToLog, Submitted}
-use Rattle.sb_calls.specs.Behaviour.{declared_cowns, effect_of}
 use Rattle.sb_replica_log.specs.Offers.{after_offer, offer_answer}
 use Rattle.sb_replica_log.specs.declared.offered.Offered.TheVariants.{Next}
 use Rattle.sb_replica.proofs.ChangedLogs.{answered_log_changes}
@@ -21,12 +19,3 @@ returns-clause-err g c =
 pub returns-clause-state : goal.returns-clause-state
 returns-clause-state g c =
     answered_log_changes c.offer_entry.new.self c.offer_entry.result (λ log answer. after_offer log c.args.op answer) c.self.view_is c.offer_entry.ensures.state
-
-pub returns-clause-played : goal.returns-clause-played
-returns-clause-played g c =
-    subst
-    (λ (r : ReplicaOf g.row.S.Denot).
-    IfOk c.offer_entry.result (λ answer. answer ≡ Next → StaysTrueToLog declared_cowns effect_of r.board
-    (Submitted c.args.op (Ok (suc (length_of r.board)))) c.offer_entry.new.self.board))
-    c.self.view_is
-    c.offer_entry.ensures.played

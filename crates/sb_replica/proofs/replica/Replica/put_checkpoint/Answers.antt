@@ -1,6 +1,4 @@
 use Rattle.std.proofs.Common.{◌≡◌, None, Ok, inl, refl, rules, ap, subst, ◌∙◌}
-use Rattle.cown_board.specs.BoardCalls.{CutDropped, StaysTrueToLog}
-use Rattle.sb_calls.specs.Behaviour.{declared_cowns, effect_of}
 use Rattle.sb_checkpoint.specs.Stores.{StoreDoes, Put}
 use Rattle.sb_replica_log.specs.Log.{LogOf}
 use Rattle.sb_replica.specs.Replica.{ReplicaOf}
@@ -29,7 +27,7 @@ returns-in-Ok-put-clause-ok g c =
       held = log.held;
       store = c.put.new.self;
     })
-    c.drop_cut.ensures.state ∙ ap here c.self.view_is in (
+    c.drop_cut.ensures ∙ ap here c.self.view_is in (
       record {
         idle = c.in-Some.ensures.value.0;
         columns = c.in-Some.columns.now;
@@ -43,17 +41,12 @@ returns-in-Ok-put-clause-ok g c =
     )
 
 pub returns-in_default : goal.returns-in_default
-returns-in_default g c = record { busy = (λ e. c.in_default.ensures.value, λ e. refl); ok = tt; played = tt; err = (c.in_default.ensures.value, refl) }
+returns-in_default g c = record { busy = (λ e. c.in_default.ensures.value, λ e. refl); ok = tt; err = (c.in_default.ensures.value, refl) }
 
 pub returns-in_default-checkpoint_bytes : goal.returns-in_default-checkpoint_bytes
 returns-in_default-checkpoint_bytes g c =
     let idle = c.in-Some.ensures.value.0 in
-    record { busy = (λ e. absurd cc, λ some. absurd (some idle)); ok = tt; played = tt; err = (idle, inl refl) }
+    record { busy = (λ e. absurd cc, λ some. absurd (some idle)); ok = tt; err = (idle, inl refl) }
 
 pub returns-in-Ok-put-clause-busy : goal.returns-in-Ok-put-clause-busy
 returns-in-Ok-put-clause-busy g c = (λ e. absurd cc, λ some. absurd (some c.in-Some.ensures.value.0))
-
-pub returns-in-Ok-put-clause-played : goal.returns-in-Ok-put-clause-played
-returns-in-Ok-put-clause-played g c =
-    subst (λ (r : ReplicaOf g.row.S.Denot). StaysTrueToLog declared_cowns effect_of r.board CutDropped c.drop_cut.new.self.board)
-    c.self.view_is c.drop_cut.ensures.played

@@ -1,10 +1,8 @@
-use Rattle.std.proofs.Common.{◌≡◌, ℕ, Some, subst}
-use Rattle.std.specs.Prelude.{◌↔◌, IsErrOf}
-use Rattle.cown_board.specs.declared.cut.CutFault.TheVariants.{Pending}
+use Rattle.std.proofs.Common.{subst}
+use Rattle.cown_board.specs.BoardCalls.{MakesCut}
 use Rattle.sb_replica_log.specs.Log.{LogOf}
 use Rattle.sb_replica_log.proofs.replica_log.ReplicaLog.cut.Goals as goal
 
-pub returns-clause-pending : goal.returns-clause-pending
-returns-clause-pending c =
-    subst (λ (log : LogOf). (number : ℕ) → IsErrOf c.cut.result (Pending number) ↔ (log.board.cut ≡ Some number)) c.self.view_is
-    c.cut.ensures.pending
+pub returns-clause-made : goal.returns-clause-made
+returns-clause-made c =
+    subst (λ (log : LogOf). MakesCut log.board c.cut.result c.cut.new.self) c.self.view_is c.cut.ensures.made

@@ -1,8 +1,7 @@
-use Rattle.std.proofs.Common.{◌≡◌, ℕ, Result, Err, sym, ap, ◌∙◌}
-use Rattle.cown_board.specs.declared.cut.CutFault.{CutFault}
-use Rattle.cown_board.specs.declared.cut.CutFault.TheVariants.{Pending, OutOfMemory}
+use Rattle.std.proofs.Common.{ap, ◌∙◌}
+use Rattle.cown_board.specs.Board.{BoardOf}
+use Rattle.sb_calls.specs.declared.op.Op.{Op}
 use Rattle.schedule_player.specs.inner.NodeInvariant.{machine_node}
-use Rattle.schedule_player.proofs.Lists.{no_hand}
 use Rattle.schedule_player.proofs.NodeMoves.{node_fails}
 use Rattle.schedule_player.proofs.checkpoints.CheckpointSteps.{cuts_now, cuts_pending}
 use Rattle.schedule_player.proofs.events.MemoryRefusals.{cuts}
@@ -10,20 +9,23 @@ use Rattle.schedule_player.proofs.node.Node.cut.Goals as goal
 
 pub returns-in-Ok : goal.returns-in-Ok
 returns-in-Ok c bank r is =
-    cuts_now bank r c.args.self.now c.cut.new.self c.in-Ok.length is c.in-Ok.ensures.number c.in-Ok.ensures.ok.0 c.in-Ok.ensures.ok.1
+    let old = c.args.self.now.replica in
+    let made = c.in-Ok.ensures.made in
+    cuts_now bank r c.args.self.now c.cut.new.self c.in-Ok.length is made.1 made.0
+    (c.in-Ok.ensures.rest ∙ ap (λ (b : BoardOf Op). record old { board = b }) made.2)
 
 pub returns-in-Err-Pending : goal.returns-in-Err-Pending
 returns-in-Err-Pending c bank r is =
-    let number = c.in-Err-Pending.length in
-    cuts_pending bank r c.args.self.now c.cut.new.self number is
-    ((c.in-Err-Pending.ensures.pending number).0 (ap (λ fault. Err fault) c.in-Err-Pending.field-0-is)) c.in-Err-Pending.ensures.err
-
-memory_pending : (number : ℕ) → ◌≡◌ {A = Result ℕ CutFault} (Err OutOfMemory) (Err (Pending number)) → ⊥
-memory_pending number e = cc
+    let old = c.args.self.now.replica in
+    let made = rw c.in-Err-Pending.field-0-is at c.in-Err-Pending.ensures.made in
+    cuts_pending bank r c.args.self.now c.cut.new.self c.in-Err-Pending.length is made.0
+    (c.in-Err-Pending.ensures.rest ∙ ap (λ (b : BoardOf Op). record old { board = b }) made.1)
 
 pub returns-in-Err-OutOfMemory : goal.returns-in-Err-OutOfMemory
 returns-in-Err-OutOfMemory c bank r is =
-    node_fails bank r c.args.self.now (record c.args.self.now { replica = c.cut.new.self }) is
-    (ap (λ rep. record c.args.self.now { replica = rep }) c.in-Err-OutOfMemory.ensures.err)
-    (cuts (machine_node c.args.self.now) (no_hand c.args.self.now.replica.board.cut (λ number here.
-    memory_pending number (ap (λ fault. Err fault) (sym c.in-Err-OutOfMemory.field-0-is) ∙ (c.in-Err-OutOfMemory.ensures.pending number).1 here))))
+    let old = c.args.self.now in
+    let made = rw c.in-Err-OutOfMemory.field-0-is at c.in-Err-OutOfMemory.ensures.made in
+    node_fails bank r old (record old { replica = c.cut.new.self }) is
+    (ap (λ rep. record old { replica = rep })
+    (c.in-Err-OutOfMemory.ensures.rest ∙ ap (λ (b : BoardOf Op). record old.replica { board = b }) made.1))
+    (cuts (machine_node old) made.0)

@@ -1,7 +1,6 @@
 use Rattle.std.proofs.Common.{Some, refl, sym, ap, subst, ◌∙◌}
 use Rattle.std.specs.List.{slice_set}
 use Rattle.std.specs.Vec.{with_item}
-use Rattle.std.proofs.lemmas.Bool.{true≢false}
 use Rattle.schedule_player.specs.inner.NodeInvariant.{MovesTo, machine_node}
 use Rattle.schedule_player.specs.ReplicaMoves.{finish_move}
 use Rattle.schedule_text.specs.declared.note.Note.TheVariants as note
@@ -28,8 +27,8 @@ returns-in_default-finish c bank r is =
     (get_here old.hands.items c.in-Some.hand c.index_mut.result.now c.in-Some.ensures.1 c.index_mut.ensures.value
     ∙ ap (λ x. Some x) (sym c.take.ensures.value ∙ c.in-Some-take.is))
     (record { number = c.run.ensures.job.0; behaviour = c.run.ensures.job.1; inputs = c.run.ensures.job.2 })
-    (λ out. true≢false (sym (c.in_default-finish.ensures.accepted.1 out)))
-    c.in_default-finish.ensures.outcome.1
+    c.in_default-finish.ensures.made.0
+    c.in_default-finish.ensures.made.2
     (record { beside = c.in_default-finish.ensures.rest; inbound = refl; outbound = refl; states = refl })
     (ap (λ x. slice_set old.hands.items c.in-Some.hand x) c.take.ensures.after))
 
@@ -42,6 +41,6 @@ returns c bank r is =
     (get_here old.hands.items c.in-Some.hand c.index_mut.result.now c.in-Some.ensures.1 c.index_mut.ensures.value
     ∙ ap (λ x. Some x) (sym c.take.ensures.value ∙ c.in-Some-take.is))
     (record { number = c.run.ensures.job.0; behaviour = c.run.ensures.job.1; inputs = c.run.ensures.job.2 })
-    c.in-Ok.ensures.outcome
+    c.in-Ok.ensures.made
     (record { beside = c.in-Ok.ensures.rest; inbound = refl; outbound = refl; states = refl })
     (ap (λ x. slice_set old.hands.items c.in-Some.hand x) c.take.ensures.after))

@@ -13,7 +13,7 @@ returns-in_default-take_at c bank r is =
     c.in-Some.ensures.0
     (none_here c.args.self.now.hands.items c.in-Some.hand c.index.result.now c.in-Some.ensures.1 c.index.ensures c.if-is_some.ensures)
     (record { beside = c.in_default-take_at.ensures.rest; inbound = refl; outbound = refl; states = refl }) refl
-    c.in_default-take_at.ensures.outcome.0 c.in_default-take_at.ensures.outcome.1
+    c.in_default-take_at.ensures.made.0 c.in_default-take_at.ensures.made.1
 
 pub returns : goal.returns
 returns c bank r is =
@@ -24,4 +24,4 @@ returns c bank r is =
     c.in-Some.ensures.0
     (none_here old.hands.items c.in-Some.hand c.index.result.now c.in-Some.ensures.1 c.index.ensures c.if-is_some.ensures)
     (record { beside = c.in-Some-take_at.ensures.rest; inbound = refl; outbound = refl; states = refl }) refl
-    c.in-Some-take_at.ensures.outcome)
+    c.in-Some-take_at.ensures.made)
