@@ -39,7 +39,7 @@ module _ {B : Type 0} (touches : B → List ℕ) (effect : B → List ℤ → Re
   )
 
 -- whatever a cut answers, nothing else of the board changes
-pub cut_alone : {B : Type 0} {old new : BoardOf B} (answer : Result ℕ CutFault) → MakesCut old answer new → new ≡ record old { cut = new.cut }
-cut_alone {B} {old} {new} (Ok number) made = made.2 ∙ ap (λ c. record old { cut = c }) (sym (ap (λ (b : BoardOf B). b.cut) made.2))
-cut_alone {B} {old} {new} (Err (Pending number)) made = made.1 ∙ ap (λ c. record old { cut = c }) (sym (ap (λ (b : BoardOf B). b.cut) made.1))
-cut_alone {B} {old} {new} (Err NoMemory) made = made.1 ∙ ap (λ c. record old { cut = c }) (sym (ap (λ (b : BoardOf B). b.cut) made.1))
+pub cut_alone : {B : Type 0} (old new : BoardOf B) (answer : Result ℕ CutFault) → MakesCut old answer new → new ≡ record old { cut = new.cut }
+cut_alone {B} old new (Ok number) made = made.2 ∙ ap (λ c. record old { cut = c }) (sym (ap (λ (b : BoardOf B). b.cut) made.2))
+cut_alone {B} old new (Err (Pending number)) made = made.1 ∙ ap (λ c. record old { cut = c }) (sym (ap (λ (b : BoardOf B). b.cut) made.1))
+cut_alone {B} old new (Err NoMemory) made = made.1 ∙ ap (λ c. record old { cut = c }) (sym (ap (λ (b : BoardOf B). b.cut) made.1))

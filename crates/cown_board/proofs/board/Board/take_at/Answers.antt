@@ -25,15 +25,14 @@ take-requires-clause-cowns g c k cown among =
 pub take-requires-clause-limit : goal.take-requires-clause-limit
 take-requires-clause-limit g c = omega (arith, c.self.invariant.length_limit)
 
-pub returns-in_err-position-clause-made : goal.returns-in_err-position-clause-made
-returns-in_err-position-clause-made g c =
+pub returns-in_err-position : goal.returns-in_err-position
+returns-in_err-position g c =
     let few = c.in_err-position.ensures.outcome.0 in
-    rw c.from_residual.ensures (
+    record { made = rw c.from_residual.ensures (
       subst (λ (v : BoardOf g.row.B.Denot). length
           (ready_positions g.B.Behaviour.touches v.log v.states) ≤ c.args.index) c.self.view_is few,
       c.self.view_is,
-    )
-
+    ) }
 pub index-behaviour-requires : goal.index-behaviour-requires
 index-behaviour-requires g c =
     let touches = g.B.Behaviour.touches in
@@ -114,8 +113,8 @@ invariant_of-self-2 g c =
     (subst (λ n. AreLinks touches effect log states c.self.inside.unfinished n c.take.new.self) (one_each touches effect c.self.invariant)
     c.in_ok-position.ensures.outcome.1)
 
-pub returns-clause-made : goal.returns-clause-made
-returns-clause-made g c =
+pub returns : goal.returns
+returns g c =
     let touches = g.B.Behaviour.touches in
     let effect = g.B.Behaviour.effect in
     let log = c.self.inside.log.items in
@@ -127,4 +126,4 @@ returns-clause-made g c =
     c.read_cowns-inputs.ensures ∙ ap (read_cowns (contents_of c.self.inside.columns)) (c.as_slice.ensures.value ∙ c.cowns.ensures) in
     let takes = takes_from touches effect c.self.invariant c.args.index c.in_ok-position.position c.index-behaviour.result.now c.read_cowns-inputs.result.items
     ready here read in
-    rw (c.new.ensures, sym c.self.view_is) takes
+    record { made = rw (c.new.ensures, sym c.self.view_is) takes }

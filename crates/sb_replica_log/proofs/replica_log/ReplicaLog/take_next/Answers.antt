@@ -1,7 +1,6 @@
-use Rattle.std.proofs.Common.{◌%◌, length, sym, ap, subst, ◌∙◌, arith}
+use Rattle.std.proofs.Common.{◌%◌, length, sym, ap, subst, ◌∙◌}
 use Rattle.sb_calls.proofs.DeclaredCowns.{declared_below}
 use Rattle.sb_calls.specs.Op.{IsOpWithin}
-use Rattle.cown_board.specs.Board.{length_of}
 use Rattle.sb_replica_log.specs.Log.{LogOf, IsReplicaLog}
 use Rattle.sb_replica_log.specs.Offers.{log_with_entry}
 use Rattle.sb_replica_log.proofs.LogInvariant.{keeps_taken}
@@ -30,8 +29,3 @@ returns-in-Ok-clause-state c =
     seen_taken board items c.self.invariant c.args.op c.submit.new.self c.slot_of.result c.in-Ok.ensures.made.3
     (c.slot_of.ensures ∙ ap (λ n. n % 64) c.in-Ok.ensures.made.2)
     ∙ ap (λ (log : LogOf). log_with_entry log c.args.op) c.self.view_is
-
-pub prove-unreachable-requires : goal.prove-unreachable-requires
-prove-unreachable-requires c =
-    let made = rw c.in-Err-LogFull.field-0-is at c.in-Err-LogFull.ensures.made in
-    omega (arith, made.1, c.requires.has_room, ap (λ (log : LogOf). length_of log.board) c.self.view_is)
