@@ -33,10 +33,10 @@ module _ (touches : Op → List ℕ) (effect : Op → List ℤ → Reply × List
       absurd (made.0 (Takes-here touches effect done takes
       (of.0 ∙ ap (λ j. j.number) same, of.1 ∙ ap (λ j. j.behaviour) same, of.2 ∙ ap (λ j. j.inputs) same)))
 
-  pub carried : {old mid new : BoardOf Op} {index : ℕ} {job back : JobOf Op} {done : DoneOf Op} (answer : Result Reply (DoneOf Op))
+  pub carried : {old mid new : BoardOf Op} {index : ℕ} {job back : JobOf Op} (done : DoneOf Op) (answer : Result Reply (DoneOf Op))
       → Takes touches effect old index job mid → back ≡ job → IsResultOf done back → TakesBack touches effect mid done answer new
       → CarriesOut old new
-  carried {old} {mid} {new} answer takes same of made =
+  carried {old} {mid} {new} done answer takes same of made =
       let finishes = (finished answer takes same of made).1.1 in
       let first = Takes-counts touches effect takes in
       let second = Finishes-counts touches effect finishes in
@@ -48,10 +48,10 @@ module _ (touches : Op → List ℕ) (effect : Op → List ℤ → Reply × List
       }
 
 -- with its job, if that came back
-pub ran_in_place : {old mid new : BoardOf Op} {job back : JobOf Op} {done : DoneOf Op} (answer : Result Reply (DoneOf Op))
+pub ran_in_place : {old mid new : BoardOf Op} {job back : JobOf Op} (done : DoneOf Op) (answer : Result Reply (DoneOf Op))
     → Takes declared_cowns effect_of old 0 job mid → back ≡ job → IsResultOf done back
     → TakesBack declared_cowns effect_of mid done answer new → RunsInPlace old job new
-ran_in_place {old} {mid} {new} {job} {back} {done} answer takes same of made =
+ran_in_place {old} {mid} {new} {job} {back} done answer takes same of made =
     let (reply, finishes) = (finished declared_cowns effect_of answer takes same of made).1 in
     record {
       taken = mid;

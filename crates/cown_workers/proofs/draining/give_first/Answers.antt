@@ -9,7 +9,7 @@ use Rattle.cown_workers.proofs.draining.give_first.Goals as goal
 use Rattle.cown_workers.proofs.draining.give_first.Given.{Over}
 
 carried_here : (g : Over) (c : goal.Else-prove g) → CarriesOut (g.R.Runs.board c.args.runs.now) (g.R.Runs.board c.finish.new.self)
-carried_here g c = carried declared_cowns effect_of c.finish.result c.in-Some.ensures.made c.in-Err.ensures.same c.run.ensures.job c.finish.ensures.made
+carried_here g c = carried declared_cowns effect_of _ c.finish.result c.in-Some.ensures.made c.in-Err.ensures.same c.run.ensures.job c.finish.ensures.made
 
 pub prove-unreachable-requires : goal.prove-unreachable-requires
 prove-unreachable-requires g c =
@@ -41,7 +41,7 @@ returns-in_default-give-clause-unfinished g c = let h = Takes-counts declared_co
 pub returns-in-Err-clause-exchanged : goal.returns-in-Err-clause-exchanged
 returns-in-Err-clause-exchanged g c =
     Exchanged-one g.C.Crew.acts (CameBack c.in-Some.job) c.in-Err.ensures.acts
-    (ran_in_place c.finish.result c.in-Some.ensures.made c.in-Err.ensures.same c.run.ensures.job c.finish.ensures.made)
+    (ran_in_place _ c.finish.result c.in-Some.ensures.made c.in-Err.ensures.same c.run.ensures.job c.finish.ensures.made)
 
 pub returns-in_default-give-clause-exchanged : goal.returns-in_default-give-clause-exchanged
 returns-in_default-give-clause-exchanged g c = Exchanged-one g.C.Crew.acts (Kept c.in-Some.job) c.in_default-give.ensures.acts c.in-Some.ensures.made
