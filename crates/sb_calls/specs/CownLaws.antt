@@ -4,7 +4,7 @@ use Rattle.std.specs.List.{Contains}
 use Rattle.sb_rows.specs.Balances.{Balances}
 use Rattle.sb_rows.specs.Directory.{place_of}
 use Rattle.sb_rows.specs.Rows.{rows_of, SameCustomers}
-use Rattle.sb_calls.specs.Cowns.{savings_cown, checking_cown, IsContents, contents_of, write_cowns}
+use Rattle.sb_calls.specs.Cowns.{savings_cown, checking_cown, IsContents, contents_of, read_cowns, write_cowns}
 use Rattle.sb_calls.specs.Behaviour.{declared_cowns, effect_of}
 use Rattle.sb_calls.specs.Log.{rows_after_calls, reply_to}
 use Rattle.sb_calls.specs.SerialRun.{contents_after_first, reply_by_log}
@@ -28,6 +28,11 @@ DeclaresTouched directory b call cowns =
     ↔ ((cell : BalanceCell) × Contains (touched_cells (rows_of directory b) call) cell
     × (cown_of directory cell ≡ Some cown))
 
+-- the op of a call declares the cowns of the balances that the call touches
+abbrev pub OpsDeclareTouched : Type 0
+OpsDeclareTouched = (directory : List (List ℕ)) (b : Balances) (call : Call) → SameCustomers directory b
+    → DeclaresTouched directory b call (declared_cowns (op_of directory call))
+
 -- once these outputs are written to the declared cowns, the rows are those after the procedure, and
 -- the reply is the procedure's
 pub record PerformsByCowns (directory : List (List ℕ)) (call : Call) (old : Balances) (cowns : List ℕ)
@@ -35,6 +40,13 @@ pub record PerformsByCowns (directory : List (List ℕ)) (call : Call) (old : Ba
   pub new : Balances
   pub written : contents_of new ≡ write_cowns (contents_of old) cowns outputs
   pub performs : FollowsProcedure directory call old new answer
+
+-- the effect of a call's op on the values of its cowns is the call's procedure
+abbrev pub EffectsByProcedure : Type 0
+EffectsByProcedure = (directory : List (List ℕ)) (b : Balances) (call : Call) → SameCustomers directory b
+    → let cowns = declared_cowns (op_of directory call) in
+    let effect = effect_of (op_of directory call) (read_cowns (contents_of b) cowns) in
+    PerformsByCowns directory call b cowns effect.0 effect.1
 
 -- a log of calls, looked up and run one by one over the cowns: its replies are those of the calls,
 -- and after its first k calls the cowns contain balances of these customers, whose rows are

@@ -3,7 +3,7 @@ ghost use Rattle.std.specs.Prelude.{◌≡◌, ◌≤◌, ℕ, suc, pos, List, l
 ghost use Rattle.sb_calls.specs.declared.call.Call.{Call};
 ghost use Rattle.sb_calls.specs.Log.{replies_to, reply_to};
 ghost use Rattle.sb_calls.specs.Net.{TotalByNet};
-ghost use Rattle.sb_calls.specs.CownLaws.{LogsByCowns, RepliesHaveSpellings};
+ghost use Rattle.sb_calls.specs.CownLaws.{EffectsByProcedure, LogsByCowns, OpsDeclareTouched, RepliesHaveSpellings};
 ghost use Rattle.sb_calls.specs.Conflicts.{ConflictsByName};
 ghost use Rattle.sb_calls.specs.Replies.{RepliesHaveOneCode};
 ghost use Rattle.sb_calls.specs.ReplyText.{reply_text};
@@ -46,6 +46,18 @@ pub fn total_by_net()
 /// depend on these balances alone. It leaves all others.
 pub fn calls_are_local()
     ensures { Locality }
+{}
+
+/// The op of a call declares the cowns of the balances that the call touches, and no others.
+pub fn ops_declare_touched()
+    ensures { OpsDeclareTouched }
+{}
+
+/// The effect of a call's op on the values of its cowns is the procedure of the call: once its
+/// outputs are written to these cowns, the rows are those after the procedure, and the reply is the
+/// same.
+pub fn effects_by_procedure()
+    ensures { EffectsByProcedure }
 {}
 
 /// A log of calls, looked up and run one by one over their cowns, gives the replies and the rows of

@@ -21,8 +21,9 @@ pub use cowns::{
     BEHAVIOUR_COWNS, Behaviour, Cown, PENALTY, Performs, cowns_of, perform, read_cowns, write_cowns,
 };
 pub use laws::{
-    calls_are_local, conflicts_by_name, limits, logs_by_cowns, replies_are_short,
-    replies_have_one_code, replies_have_spellings, replies_one_by_one, total_by_net,
+    calls_are_local, conflicts_by_name, effects_by_procedure, limits, logs_by_cowns,
+    ops_declare_touched, replies_are_short, replies_have_one_code, replies_have_spellings,
+    replies_one_by_one, total_by_net,
 };
 pub use net_change::net;
 pub use nodes::{REPLICAS, WORKERS};

@@ -1,12 +1,7 @@
 //! An op as a behaviour: the cowns that it declares, and its effect on them.
-ghost use Rattle.std.specs.Prelude.{◌≡◌, ℕ, List};
-ghost use Rattle.sb_rows.specs.Balances.{Balances};
-ghost use Rattle.sb_rows.specs.Rows.{SameCustomers};
-ghost use Rattle.sb_calls.specs.declared.call.Call.{Call};
+ghost use Rattle.std.specs.Prelude.{◌≡◌};
 ghost use Rattle.sb_calls.specs.Behaviour.{declared_cowns, effect_of, amalgamation_cowns, payment_cowns, amalgamation_effect, payment_effect};
-ghost use Rattle.sb_calls.specs.CownLaws.{DeclaresTouched, PerformsByCowns};
-ghost use Rattle.sb_calls.specs.Cowns.{AreCownValues, contents_of, read_cowns};
-ghost use Rattle.sb_calls.specs.Op.{op_of};
+ghost use Rattle.sb_calls.specs.Cowns.{AreCownValues};
 
 use super::behaviour::{BEHAVIOUR_COWNS, Behaviour, Performs};
 use super::cown::Cown;
@@ -23,16 +18,6 @@ use sb_amount::Cents;
 /// The cowns of the balances that a call touches, in rising order. There are none if a name isn't
 /// in the bank, or if its two names are the same.
 pub fn cowns_of(op: Op) -> ArrayVec<Cown, BEHAVIOUR_COWNS>
-    ensures value { result.items ≡ declared_cowns op }
-    ensures touched_cells { (directory : List (List ℕ)) (b : Balances) (call : Call)
-        → SameCustomers directory b → op ≡ op_of directory call
-        → DeclaresTouched directory b call result.items }
-{
-    declared_by(op)
-}
-
-// The cowns of the balances at the places of an op.
-fn declared_by(op: Op) -> ArrayVec<Cown, BEHAVIOUR_COWNS>
     ensures { result.items ≡ declared_cowns op }
 {
     let mut cowns = ArrayVec::new();
@@ -93,20 +78,6 @@ fn payment_cowns(places: TwoPlaces) -> ArrayVec<Cown, BEHAVIOUR_COWNS>
 ///
 /// A refusal leaves the inputs.
 pub fn perform(op: Op, inputs: &[Cents]) -> (Reply, ArrayVec<Cents, BEHAVIOUR_COWNS>)
-    requires { AreCownValues (declared_cowns op) inputs.now }
-    ensures reply { result.0 ≡ (effect_of op inputs.now).0 }
-    ensures outputs { result.1.items ≡ (effect_of op inputs.now).1 }
-    // It is the procedure on all rows whose declared cowns contain these inputs.
-    ensures procedure { (directory : List (List ℕ)) (b : Balances) (call : Call)
-        → SameCustomers directory b → op ≡ op_of directory call
-        → read_cowns (contents_of b) (declared_cowns op) ≡ inputs.now
-        → PerformsByCowns directory call b (declared_cowns op) result.0 result.1.items }
-{
-    effect_on(op, inputs)
-}
-
-// The effect of an op on the values of its cowns.
-fn effect_on(op: Op, inputs: &[Cents]) -> Effect
     requires { AreCownValues (declared_cowns op) inputs.now }
     ensures { (result.0, result.1.items) ≡ effect_of op inputs.now }
 {
