@@ -1,10 +1,12 @@
 -- Events, one after another.
-use Rattle.std.specs.Prelude.{◌≡◌, ℕ, max, List, [], ◌∷◌, ◌++◌, fold, length, take}
+use Rattle.std.specs.Prelude.{◌≡◌, ℕ, max, IsTrue, List, [], ◌∷◌, ◌++◌, fold, length, take}
+use Rattle.std.specs.List.{All}
 use Rattle.sb_rows.specs.Balances.{Balances}
 use Rattle.sb_calls.specs.declared.ask.Key.{Key}
 use Rattle.sb_calls.specs.declared.call.Call.{Call}
 use Rattle.sb_sequencer.specs.Log.{log_with}
 use Rattle.schedule_player.specs.Bank.{BankOf}
+use Rattle.schedule_player.specs.PossibleNotes.{may_occur}
 use Rattle.schedule_player.specs.World.{WorldOf, Moves, bank_with, opened_world}
 use Rattle.schedule_text.specs.ScheduleText.{ScheduleOf}
 use Rattle.schedule_text.specs.declared.event.Event.{Event}
@@ -67,3 +69,19 @@ no_events names balances nodes workers =
 -- a schedule with more events after its own
 abbrev pub with_events : ScheduleOf → List Event → ScheduleOf
 with_events schedule more = record schedule { events = schedule.events ++ more }
+
+-- ---- what follows from every list of events
+
+-- what holds after events that led from the old world to the new one, with these notes
+pub record HoldsAfterPlaying (old : WorldOf) (events : List Event) (notes : List Note) (new : WorldOf) : Type 0 where
+  -- if the old world is the one after a schedule, the new one is that after it and these events
+  pub schedule : (before : ScheduleOf) → IsWorldAfter before old → IsWorldAfter (with_events before events) new
+  -- no note is odd, unknown, different or off the books
+  pub possible : All (λ note. IsTrue (may_occur note)) notes
+  -- there are as many replicas as before
+  pub replicas : length new.nodes ≡ length old.nodes
+
+-- whichever events the machine plays, from whatever world
+abbrev pub AfterPlaying : Type 0
+AfterPlaying = (old new : WorldOf) (events : List Event) (notes : List Note) → PlaysEvents old events notes new
+    → HoldsAfterPlaying old events notes new

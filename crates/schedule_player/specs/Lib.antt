@@ -1,4 +1,3 @@
-pub mod Agreement
 pub mod Bank
 pub mod Books
 pub mod EventLists

@@ -1,4 +1,5 @@
 //! The replication theorem.
+ghost use Rattle.schedule_player.specs.EventLists.{AfterPlaying};
 ghost use Rattle.schedule_player.specs.Headline.{Replication};
 ghost use Rattle.schedule_player.specs.LogAgreement.{RecordedLengths};
 ghost use Rattle.schedule_player.specs.LogLaws.{FirstAsks, RestartsAfterCrash, SyncedLogsStay};
@@ -9,6 +10,13 @@ ghost use Rattle.schedule_player.specs.LogLaws.{FirstAsks, RestartsAfterCrash, S
 /// entries as are synced.
 pub fn replication()
     ensures { Replication }
+{}
+
+/// What follows from every list of events, and so from one event. If the world before is the one
+/// after a schedule, the world at the end is that after the schedule and these events. No note is
+/// odd, unknown, different or off the books. There are as many replicas as before.
+pub fn after_playing()
+    ensures { AfterPlaying }
 {}
 
 /// After every list of events from an opened world, each length of a log that the sequencer

@@ -10,7 +10,8 @@ mod world;
 
 pub use fault::{PlayFault, ScheduleFault, StepFault};
 pub use laws::{
-    log_is_first_asks, recorded_lengths, replication, restarts_as_after_a_crash, synced_logs_stay,
+    after_playing, log_is_first_asks, recorded_lengths, replication, restarts_as_after_a_crash,
+    synced_logs_stay,
 };
 pub use running::run_schedule;
 pub use schedule_text::{AuditNote, Column, Event, Events, NodeEvent, Note, SystemEvent};

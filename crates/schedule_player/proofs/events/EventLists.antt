@@ -1,7 +1,9 @@
 -- Events, one after another.
 use Rattle.std.proofs.Common.{◌≡◌, Bool, true, false, ℕ, Option, Some, None, Result, Ok, Err, List, [], ◌∷◌, ◌++◌, length, map, refl, sym, ap, subst, ◌∙◌, append-nil, append_assoc}
-use Rattle.std.specs.Prelude.{slice_get, ◌==◌, fold, IfOk, OnErr}
+use Rattle.std.specs.Prelude.{slice_get, ◌==◌, fold}
+use Rattle.std.specs.List.{All}
 use Rattle.std.proofs.lemmas.List.{length-set}
+use Rattle.std.proofs.lemmas.List.Elements.{All-nil, All-cons}
 use Rattle.sb_calls.specs.declared.ask.Key.{Key}
 use Rattle.sb_calls.specs.declared.call.Call.{Call}
 use Rattle.sb_calls.specs.declared.reply.Reply.{Reply}
@@ -19,8 +21,7 @@ use Rattle.sb_sequencer.specs.declared.answer.Numbered.TheVariants.{New, Repeat}
 use Rattle.schedule_sequencer.specs.DurableSequencer.{DurableSequencerOf, whole_log, after_append, after_sync, log_after_crash, after_crash}
 use Rattle.schedule_player.specs.PossibleNotes.{may_occur}
 use Rattle.schedule_player.specs.OneBased.{nth_item}
-use Rattle.schedule_player.specs.declared.fault.StepFault.{StepFault}
-use Rattle.schedule_player.specs.EventLists.{PlaysEvents, SyncedLog, all_synced, log_after_event, log_after_events, bank_after, IsWorldAfter, with_events}
+use Rattle.schedule_player.specs.EventLists.{PlaysEvents, SyncedLog, all_synced, log_after_event, log_after_events, bank_after, IsWorldAfter, AfterPlaying}
 use Rattle.schedule_player.specs.ReplicaMoves.{NodeOf, receive_move, node_move}
 use Rattle.schedule_player.specs.World.{WorldOf, AppendsAsk, Asks, Moves, world_log, bank_of, bank_with, world_move, replica_move, move_if, move_at, reply_move, report_move, from_move, give_move, opened_world}
 use Rattle.schedule_text.specs.ScheduleText.{ScheduleOf}
@@ -204,13 +205,6 @@ plays_more old (first ∷ events) [] middle happens n new plays moves = absurd p
 plays_more old (first ∷ events) (m ∷ notes) middle happens n new plays moves =
     (plays.0, plays.1, plays_more plays.0 events notes middle happens n new plays.2 moves)
 
-pub played_more : (schedule : ScheduleOf) (old : WorldOf) (happens : Event) (n : Note) (new : WorldOf) → IsWorldAfter schedule old → Moves old happens n new
-    → IsWorldAfter (with_events schedule (happens ∷ [])) new
-played_more schedule old happens n new played moves = record {
-  notes = played.notes ++ n ∷ [];
-  plays = plays_more (opened_world schedule) schedule.events played.notes old happens n new played.plays moves;
-}
-
 -- events, and then more events
 pub plays_on : (old : WorldOf) (events : List Event) (notes : List Note) (middle : WorldOf) (more : List Event) (later : List Note) (new : WorldOf)
     → PlaysEvents old events notes middle → PlaysEvents middle more later new → PlaysEvents old (events ++ more) (notes ++ later) new
@@ -220,26 +214,21 @@ plays_on old (first ∷ events) [] middle more later new plays goes = absurd pla
 plays_on old (first ∷ events) (m ∷ notes) middle more later new plays goes =
     (plays.0, plays.1, plays_on plays.0 events notes middle more later new plays.2 goes)
 
-pub played_on : (schedule : ScheduleOf) (old : WorldOf) (more : List Event) (later : List Note) (new : WorldOf) → IsWorldAfter schedule old
-    → PlaysEvents old more later new → IsWorldAfter (with_events schedule more) new
-played_on schedule old more later new played goes = record {
-  notes = played.notes ++ later;
-  plays = plays_on (opened_world schedule) schedule.events played.notes old more later new played.plays goes;
+-- each of their notes is possible
+notes_come : (old : WorldOf) (events : List Event) (notes : List Note) (new : WorldOf) → PlaysEvents old events notes new
+    → All (λ n. may_occur n ≡ true) notes
+notes_come old [] [] new plays = All-nil (λ n. may_occur n ≡ true)
+notes_come old [] (n ∷ notes) new plays = absurd plays
+notes_come old (happens ∷ events) [] new plays = absurd plays
+notes_come old (happens ∷ events) (n ∷ notes) new plays =
+    All-cons (λ m. may_occur m ≡ true) n notes (comes_of old happens n plays.0 plays.1) (notes_come plays.0 events notes new plays.2)
+
+pub holds_after_playing : AfterPlaying
+holds_after_playing old new events notes plays = record {
+  schedule = λ before played. record {
+    notes = played.notes ++ notes;
+    plays = plays_on (opened_world before) before.events played.notes old events notes new played.plays plays;
+  };
+  possible = notes_come old events notes new plays;
+  replicas = (leaves_all old events notes new plays).count;
 }
-
--- a step adds its event
-pub played_if : (schedule : ScheduleOf) (old : WorldOf) (happens : Event) (result : Result Note StepFault) (new : WorldOf) → IsWorldAfter schedule old
-    → IfOk result (λ n. Moves old happens n new) → IfOk result (λ n. IsWorldAfter (with_events schedule (happens ∷ [])) new)
-played_if schedule old happens (Ok n) new played moves = played_more schedule old happens n new played moves
-played_if schedule old happens (Err fault) new played moves = tt
-
-pub comes_if : (old : WorldOf) (happens : Event) (result : Result Note StepFault) (new : WorldOf) → IfOk result (λ n. Moves old happens n new)
-    → IfOk result (λ n. may_occur n ≡ true)
-comes_if old happens (Ok n) new moves = comes_of old happens n new moves
-comes_if old happens (Err fault) new moves = tt
-
--- there are as many replicas after a step as before it
-pub count_if : (old : WorldOf) (happens : Event) (result : Result Note StepFault) (new : WorldOf) → IfOk result (λ n. Moves old happens n new)
-    → OnErr result (new ≡ old) → length new.nodes ≡ length old.nodes
-count_if old happens (Ok n) new moves same = (leaves_one old happens n new moves).count
-count_if old happens (Err fault) new moves same = ap (λ w. length w.nodes) same

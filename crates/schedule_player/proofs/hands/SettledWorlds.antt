@@ -299,13 +299,6 @@ settled_idle world r lt =
     none_of zero = refl
     none_of (suc n) = none_of n
 
-pub settled_count : (world : WorldOf) (r : ℕ) → length (settled_world world r).nodes ≡ length world.nodes
-settled_count world r = by (slice_get world.nodes r)
-  where
-    by : (found : Option NodeOf) → length (settled_world_if world r found).nodes ≡ length world.nodes
-    by None = refl
-    by (Some node) = length-set world.nodes r (settled_node node)
-
 -- ---- the result of settling
 
 -- the world after this many workers' finishes, and then this many pairs
@@ -317,7 +310,6 @@ pub record Settles (world : WorldOf) (r : ℕ) (count : ℕ) (new : WorldOf) : T
   pub most : count ≤ workers_at world r + 2 * undone_at world r
   pub idle : idle_at new r ≡ true
   pub new_is : new ≡ settled_world world r
-  pub replicas : length new.nodes ≡ length world.nodes
 
 pub settles_so : (world mid new : WorldOf) (r workers done : ℕ) → r < length world.nodes → IsTrueAt IsAbleToSettle world r
     → workers ≡ workers_at world r → mid ≡ after_events world (emptying_events world r) → done ≡ undone_at mid r → new ≡ after_events mid (work_events r done)
@@ -340,5 +332,4 @@ settles_so world mid new r workers done lt able workers_is mid_is done_is new_is
       most = omega (arith, workers_is, left, most);
       idle = ap (λ w. idle_at w r) is_settled ∙ settled_idle world r lt;
       new_is = is_settled;
-      replicas = ap (λ w. length w.nodes) is_settled ∙ settled_count world r;
     }

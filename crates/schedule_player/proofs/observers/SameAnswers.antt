@@ -8,21 +8,15 @@ use Rattle.sb_rows.specs.Customer.{balances_of}
 use Rattle.sb_rows.specs.Listing.{rows_in_order}
 use Rattle.sb_text.proofs.RowsByPlace.{rows_in_order-rows_of}
 use Rattle.cown_board.proofs.LogLaws.{injective as some_is}
-use Rattle.schedule_player.specs.Agreement.{HoldsReplyOf, HaveSameRows}
 use Rattle.schedule_player.specs.Bank.{BankOf}
 use Rattle.schedule_player.specs.Books.{IsRowsAt}
 use Rattle.schedule_player.specs.Observers.{reply_at_replica}
-use Rattle.schedule_player.specs.World.{WorldOf, bank_of}
-use Rattle.schedule_player.proofs.logs.LongerLogs.{IsBeginningOf}
-use Rattle.schedule_player.proofs.observers.Observers.{held_is_logged, observed_reply}
+use Rattle.schedule_player.specs.World.{WorldOf}
+use Rattle.schedule_player.proofs.observers.Observers.{held_is_logged}
 
 -- ---- replies
 
--- a reply that is held is the bank's
-pub holds : (world : WorldOf) (bank : BankOf) (r n : ℕ) → IsBeginningOf (bank_of world) bank → HoldsReplyOf bank world r n
-holds world bank r n begins = observed_reply world r n (reply_at_replica world r n) bank refl begins
-
--- so two answers are the same
+-- two replies that are held to a number are the log's, and so they are the same
 pub same_answers : (world : WorldOf) (a b n : ℕ) (one other : Option Reply) → one ≡ reply_at_replica world a n → other ≡ reply_at_replica world b n
     → (x y : Reply) → one ≡ Some x → other ≡ Some y → x ≡ y
 same_answers world a b n one other is_a is_b x y here there =
@@ -39,9 +33,6 @@ only_rows bank size left right at_left at_right =
     ∙ ap (rows_in_order bank.names) (at_left.rows ∙ sym at_right.rows)
     ∙ rows_in_order-rows_of bank.names right at_right.customers)
     ∙ balances_of-customers_of bank.names right at_right.customers
-
-pub have_same_rows : (bank : BankOf) (world : WorldOf) (a b : ℕ) → HaveSameRows bank world a b
-have_same_rows bank world a b size is_a is_b left right at_left at_right = only_rows bank size left right at_left at_right
 
 -- if nothing was found, the answer is that there is none
 pub none_found : {A : Type 0} (found : Option A) (answer : Bool) → is_some found ≡ not answer → found ≡ None → answer ≡ true

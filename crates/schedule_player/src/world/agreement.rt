@@ -1,10 +1,6 @@
 //! The replication theorem as functions that run: two replicas are asked, and compared.
 ghost use Rattle.std.specs.Prelude.{◌≡◌, ◌<◌, ◌↔◌, true, Some, length, IsTrue};
 ghost use Rattle.sb_calls.specs.declared.reply.Reply.{Reply as AnyReply};
-ghost use Rattle.schedule_player.specs.Agreement.{HaveSameRows, HoldsReplyOf};
-ghost use Rattle.schedule_player.specs.EventLists.{IsWorldAfter, bank_after};
-ghost use Rattle.schedule_player.specs.World.{bank_of};
-ghost use Rattle.schedule_text.specs.ScheduleText.{ScheduleOf};
 
 use crate::world::World;
 use crate::world::auditing::first_place;
@@ -34,13 +30,6 @@ impl World {
         requires replicas { (a < length self.now.nodes) × (b < length self.now.nodes) }
         // They are the same, whatever happened.
         ensures agree { result ≡ true }
-        // A reply that either of them holds is the log's, run one by one.
-        ensures log_reply { HoldsReplyOf (bank_of self.now) self.now a number
-            × HoldsReplyOf (bank_of self.now) self.now b number }
-        // After whatever schedule, that log is the beginning of the log at its end.
-        ensures by_log { (schedule : ScheduleOf) → IsWorldAfter schedule self.now
-            → HoldsReplyOf (bank_after schedule) self.now a number
-            × HoldsReplyOf (bank_after schedule) self.now b number }
     {
         have_same_reply(self.reply(a, number), self.reply(b, number))
     }
@@ -51,11 +40,6 @@ impl World {
         requires replicas { (a < length self.now.nodes) × (b < length self.now.nodes) }
         // They are the same, whatever happened.
         ensures agree { result ≡ true }
-        // At one length, the log's rows are those of one pair of columns alone.
-        ensures log_rows { HaveSameRows (bank_of self.now) self.now a b }
-        // After whatever schedule, that log is the beginning of the log at its end.
-        ensures by_log { (schedule : ScheduleOf) → IsWorldAfter schedule self.now
-            → HaveSameRows (bank_after schedule) self.now a b }
     {
         let Some(left) = self.columns(a) else {
             return true;

@@ -2,11 +2,10 @@
 ghost use Rattle.std.specs.Prelude.{◌≡◌, ◌+◌, ◌*◌, ◌<◌, ◌≤◌, List, length, IsTrue};
 ghost use Rattle.sb_calls.specs.declared.call.TheConstants.{LOG_CALLS};
 ghost use Rattle.schedule_player.specs.Observers.{idle_at};
-ghost use Rattle.schedule_player.specs.EventLists.{IsWorldAfter, PlaysEvents, with_events};
+ghost use Rattle.schedule_player.specs.EventLists.{PlaysEvents};
 ghost use Rattle.schedule_player.specs.inner.SettlingSteps.{IsAbleToSettle, IsAtRest, IsTrueAt};
 ghost use Rattle.schedule_player.specs.Settling.{IsBusyBefore, after_events, emptying_events, work_events, settled_world, settle_events, undone_at, workers_at};
 ghost use Rattle.schedule_player.specs.World.{world_move};
-ghost use Rattle.schedule_text.specs.ScheduleText.{ScheduleOf};
 ghost use Rattle.schedule_text.specs.declared.event.Event.TheVariants.{At};
 ghost use Rattle.schedule_text.specs.declared.event.NodeEvent.TheVariants as event;
 ghost use Rattle.schedule_text.specs.declared.note.Note.{Note as AnyNote};
@@ -100,10 +99,6 @@ impl World {
         // the log stay.
         ensures idle { IsTrue (idle_at self.new replica) }
         ensures settled { self.new ≡ settled_world self.old replica }
-        ensures replicas { length self.new.nodes ≡ length self.old.nodes }
-        // After whatever schedule, the new world is the one after that schedule and these events.
-        ensures played { (schedule : ScheduleOf) → IsWorldAfter schedule self.old
-            → IsWorldAfter (with_events schedule (settle_events self.old replica)) self.new }
     {
         let workers = self.finish_hands(replica);
         workers + 2 * self.run_until_idle(replica)

@@ -1,11 +1,9 @@
 //! Events, one after another.
-ghost use Rattle.std.specs.Prelude.{◌≡◌, ◌⊎◌, ◌<◌, ◌≤◌, List, [], ◌∷◌, ◌++◌, map, take, length, slice_get, IfOk, IfErr, OnOk, OnErr, IsTrue};
+ghost use Rattle.std.specs.Prelude.{◌≡◌, ◌⊎◌, ◌<◌, ◌≤◌, List, ◌++◌, map, take, length, slice_get, IfOk, IfErr, OnOk, OnErr};
 ghost use Rattle.sb_rows.specs.Text.{unlines};
-ghost use Rattle.schedule_player.specs.PossibleNotes.{may_occur};
-ghost use Rattle.schedule_player.specs.EventLists.{IsWorldAfter, PlaysEvents, with_events};
+ghost use Rattle.schedule_player.specs.EventLists.{PlaysEvents};
 ghost use Rattle.schedule_player.specs.World.{MayWantMemory, Moves, NextMayWantMemory};
 ghost use Rattle.schedule_text.specs.NoteText.{note_line};
-ghost use Rattle.schedule_text.specs.ScheduleText.{ScheduleOf};
 ghost use Rattle.schedule_text.specs.declared.event.Event.TheVariants.{System};
 ghost use Rattle.schedule_text.specs.declared.event.SystemEvent.TheVariants as system;
 ghost use Rattle.schedule_text.specs.declared.note.Note.{Note as AnyNote};
@@ -45,8 +43,14 @@ impl World {
         }
     }
 
-    // What an event does.
-    fn moves(&mut self, event: Event) -> Result<Note, StepFault>
+    /// Plays one event, and notes it.
+    ///
+    /// Fails if memory is refused. That can happen only if a request gets a new number, the
+    /// sequencer starts again, a frame is sent, an entry is accepted, a cut is made, a checkpoint is
+    /// put or gone back to, a state is given or read, or an audit adds up the books. Nothing changes
+    /// then.
+    pub fn step(&mut self, event: Event) -> Result<Note, StepFault>
+        // The world moves as the reference machine does.
         ensures moves { IfOk result (λ note. Moves self.old event note self.new) }
         ensures err { OnErr result (self.new ≡ self.old) }
         ensures wanted { OnErr result (MayWantMemory self.old event) }
@@ -66,27 +70,6 @@ impl World {
             Event::System(event) => self.system_step(event),
         }
     }
-
-    /// Plays one event, and notes it.
-    ///
-    /// Fails if memory is refused. That can happen only if a request gets a new number, the
-    /// sequencer starts again, a frame is sent, an entry is accepted, a cut is made, a checkpoint is
-    /// put or gone back to, a state is given or read, or an audit adds up the books. Nothing changes
-    /// then.
-    pub fn step(&mut self, event: Event) -> Result<Note, StepFault>
-        // The world moves as the reference machine does.
-        ensures moves { IfOk result (λ note. Moves self.old event note self.new) }
-        ensures err { OnErr result (self.new ≡ self.old) }
-        ensures wanted { OnErr result (MayWantMemory self.old event) }
-        ensures replicas { length self.new.nodes ≡ length self.old.nodes }
-        // No note is ever odd, unknown, different or off the books.
-        ensures may_occur { IfOk result (λ note. IsTrue (may_occur note)) }
-        // After whatever schedule, the new world is the one after that schedule and this event.
-        ensures played { (schedule : ScheduleOf) → IsWorldAfter schedule self.old
-            → IfOk result (λ _. IsWorldAfter (with_events schedule (event ∷ [])) self.new) }
-    {
-        self.moves(event)
-    }
 }
 
 /// Plays events one after another, and notes them in order.
@@ -102,10 +85,6 @@ pub fn play(alloc: Global, world: &mut World, events: &[Event]) -> Result<Vec<No
     // Memory may be refused for that one or, before the first, for the list of notes.
     ensures wanted { IfErr result (λ fault. (fault.done ≡ 0)
         ⊎ NextMayWantMemory world.new (slice_get events.now fault.done)) }
-    ensures replicas { length world.new.nodes ≡ length world.old.nodes }
-    // After whatever schedule, the new world is the one after that schedule and these events.
-    ensures played { (schedule : ScheduleOf) → IsWorldAfter schedule world.old
-        → IfOk result (λ _. IsWorldAfter (with_events schedule events.now) world.new) }
 {
     let Ok(mut notes) = Vec::with_capacity(alloc, events.len()) else {
         return Err(PlayFault { done: 0 });
@@ -137,10 +116,6 @@ pub fn play_lines(world: &mut World, events: &Events, out: &mut Vec<u8>) -> Resu
     // Memory may be refused for the next one or, after the first, for the line of the last one.
     ensures wanted { IfErr result (λ fault. (0 < fault.done)
         ⊎ NextMayWantMemory world.new (slice_get events.now fault.done)) }
-    ensures replicas { length world.new.nodes ≡ length world.old.nodes }
-    // After whatever schedule, the new world is the one after that schedule and these events.
-    ensures played { (schedule : ScheduleOf) → IsWorldAfter schedule world.old
-        → OnOk result (IsWorldAfter (with_events schedule events.now) world.new) }
 {
     // The checker takes the event apart, and needs the types spelled out.
     let _parts: Option<(Call, How)> = None;

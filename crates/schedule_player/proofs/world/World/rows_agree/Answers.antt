@@ -1,7 +1,6 @@
 use Rattle.std.proofs.Common.{◌≡◌, Some, length, sym, ap, ◌∙◌}
-use Rattle.schedule_player.specs.EventLists.{bank_after}
 use Rattle.schedule_player.specs.World.{bank_of}
-use Rattle.schedule_player.proofs.observers.SameAnswers.{have_same_rows, none_found, only_rows}
+use Rattle.schedule_player.proofs.observers.SameAnswers.{none_found, only_rows}
 use Rattle.schedule_player.proofs.world.World.rows_agree.Goals as goal
 use Rattle.schedule_player.proofs.world.World.rows_agree.Goals.{Else-length}
 
@@ -18,25 +17,9 @@ first_place-requires-clause-savings c = ap (λ b. length b.savings) (same_column
 pub first_place-requires-clause-checking : goal.first_place-requires-clause-checking
 first_place-requires-clause-checking c = ap (λ b. length b.checking) (same_columns c)
 
-pub returns-in_default-clause-log_rows : goal.returns-in_default-clause-log_rows
-returns-in_default-clause-log_rows c = have_same_rows (bank_of c.args.self.now) c.args.self.now c.args.a c.args.b
-
-pub returns-in_default-clause-by_log : goal.returns-in_default-clause-by_log
-returns-in_default-clause-by_log c schedule played = have_same_rows (bank_after schedule) c.args.self.now c.args.a c.args.b
-
-pub returns-in_default-columns-clause-log_rows : goal.returns-in_default-columns-clause-log_rows
-returns-in_default-columns-clause-log_rows c = have_same_rows (bank_of c.args.self.now) c.args.self.now c.args.a c.args.b
-
-pub returns-in_default-columns-clause-by_log : goal.returns-in_default-columns-clause-by_log
-returns-in_default-columns-clause-by_log c schedule played = have_same_rows (bank_after schedule) c.args.self.now c.args.a c.args.b
-
-pub returns-else-length-clause-agree : goal.returns-else-length-clause-agree
-returns-else-length-clause-agree c =
-    none_found c.first_place.result c.is_none.result c.is_none.ensures
-    (c.first_place.ensures.1 (same_columns (goal.at.returns-else-length-clause-agree c).Else-length))
-
-pub returns-else-length-clause-log_rows : goal.returns-else-length-clause-log_rows
-returns-else-length-clause-log_rows c = have_same_rows (bank_of c.args.self.now) c.args.self.now c.args.a c.args.b
-
-pub returns-else-length-clause-by_log : goal.returns-else-length-clause-by_log
-returns-else-length-clause-by_log c schedule played = have_same_rows (bank_after schedule) c.args.self.now c.args.a c.args.b
+pub returns-else-length : goal.returns-else-length
+returns-else-length c = record {
+  agree =
+      none_found c.first_place.result c.is_none.result c.is_none.ensures
+      (c.first_place.ensures.1 (same_columns (goal.at.returns-else-length c).Else-length));
+}

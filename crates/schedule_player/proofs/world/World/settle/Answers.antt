@@ -1,6 +1,4 @@
 use Rattle.std.proofs.Common.{◌+◌, ◌*◌}
-use Rattle.schedule_player.specs.Settling.{settle_events}
-use Rattle.schedule_player.proofs.events.EventLists.{played_on}
 use Rattle.schedule_player.proofs.hands.SettledWorlds.{Settles, settles_so}
 use Rattle.schedule_player.proofs.world.World.settle.Goals as goal
 
@@ -28,11 +26,3 @@ returns-clause-idle c = (so c).idle
 
 pub returns-clause-settled : goal.returns-clause-settled
 returns-clause-settled c = (so c).new_is
-
-pub returns-clause-replicas : goal.returns-clause-replicas
-returns-clause-replicas c = (so c).replicas
-
-pub returns-clause-played : goal.returns-clause-played
-returns-clause-played c schedule played =
-    let world = c.args.self.now in
-    played_on schedule world (settle_events world c.args.replica) (so c).notes c.run_until_idle.new.self played (so c).plays

@@ -1,12 +1,10 @@
-use Rattle.std.proofs.Common.{◌≡◌, ℕ, ◌<◌, ◌≤◌, ◌+◌, suc, List, [], ◌∷◌, ◌++◌, inr, length, take, sym, ap, subst, ◌∙◌, arith}
+use Rattle.std.proofs.Common.{◌≡◌, ◌<◌, ◌≤◌, ◌+◌, suc, [], ◌∷◌, ◌++◌, inr, length, take, sym, ap, subst, ◌∙◌, arith}
 use Rattle.std.proofs.lemmas.List.{length-append, take_all}
 use Rattle.cown_board.proofs.LogLaws.{take_one_more}
 use Rattle.schedule_player.specs.EventLists.{PlaysEvents}
-use Rattle.schedule_player.specs.World.{WorldOf, MayWantMemory, NextMayWantMemory}
-use Rattle.schedule_text.specs.declared.event.Event.{Event}
-use Rattle.schedule_text.specs.declared.note.Note.{Note}
+use Rattle.schedule_player.specs.World.{MayWantMemory, NextMayWantMemory}
 use Rattle.schedule_player.proofs.Lists.{get_here}
-use Rattle.schedule_player.proofs.events.EventLists.{plays_more, played_on}
+use Rattle.schedule_player.proofs.events.EventLists.{plays_more}
 use Rattle.schedule_player.proofs.world.stepping.play.Goals as goal
 
 pub loop-done-preserved : goal.loop-done-preserved
@@ -31,7 +29,6 @@ loop-done-preserved c =
           let count = so_far.count in
           omega (arith, more, count);
       room = let room = so_far.room in let same = c.push_reserved.ensures.capacity in omega (arith, room, same);
-      replicas = c.in-Ok-step.ensures.replicas ∙ so_far.replicas;
     }
 
 -- at a refused event, the events before it happened
@@ -50,18 +47,9 @@ returns-in-Err-OutOfMemory-clause-wanted c =
     inr (subst (NextMayWantMemory c.step.new.self) (sym (get_here events done event within c.index-events-done.is))
     (subst (λ w. MayWantMemory w event) (sym c.in-Err-OutOfMemory.ensures.err) c.in-Err-OutOfMemory.ensures.wanted))
 
--- after the last event, all happened
-all_played : (old : WorldOf) (events : List Event) (notes : List Note) (new : WorldOf) (done : ℕ) → length events ≤ done
-    → PlaysEvents old (take done events) notes new → PlaysEvents old events notes new
-all_played old events notes new done all plays = subst (λ es. PlaysEvents old es notes new) (take_all done events all) plays
-
 pub returns-clause-plays : goal.returns-clause-plays
 returns-clause-plays c =
-    all_played c.args.world.now c.args.events.now c.loop-done.notes.items c.loop-done.world c.loop-done.done
-    (omega (arith, c.loop-done-test.false, c.loop-done.auto.done-end)) c.loop-done.invariant.plays
-
-pub returns-clause-played : goal.returns-clause-played
-returns-clause-played c schedule played =
-    played_on schedule c.args.world.now c.args.events.now c.loop-done.notes.items c.loop-done.world played
-    (all_played c.args.world.now c.args.events.now c.loop-done.notes.items c.loop-done.world c.loop-done.done
-    (omega (arith, c.loop-done-test.false, c.loop-done.auto.done-end)) c.loop-done.invariant.plays)
+    let events = c.args.events.now in
+    let all : length events ≤ c.loop-done.done = omega (arith, c.loop-done-test.false, c.loop-done.auto.done-end) in
+    subst (λ es. PlaysEvents c.args.world.now es c.loop-done.notes.items c.loop-done.world) (take_all c.loop-done.done events all)
+    c.loop-done.invariant.plays

@@ -9,5 +9,4 @@ invariant-loop-done l = record {
   plays : PlaysEvents l.fn.world (take l.done l.events) l.notes.items l.world;
   count : length l.notes.items ≡ l.done;
   room : length l.events ≤ vec_capacity l.notes;
-  replicas : length l.world.nodes ≡ length l.fn.world.nodes;
 }

@@ -1,37 +1,35 @@
 use Rattle.std.proofs.Common.{◌≡◌, ◌-◌, ◌∷◌, ◌++◌, [], inl, inr, length, refl, sym, ap, subst, ◌∙◌, arith, append-nil, append_assoc}
 use Rattle.schedule_player.specs.EventLists.{PlaysEvents}
 use Rattle.schedule_player.specs.World.{MayWantMemory, NextMayWantMemory}
-use Rattle.schedule_player.proofs.events.EventLists.{plays_more, played_on}
+use Rattle.schedule_player.proofs.events.EventLists.{plays_more}
 use Rattle.schedule_player.proofs.events.PlayedLines.{count_of, if_written, next_is, stops_at, up_to_last, up_to_next}
 use Rattle.schedule_player.proofs.world.stepping.play_lines.Goals as goal
 
 pub loop-event-init : goal.loop-event-init
-loop-event-init c = record {
-  so_far = record { done = []; notes = []; all = c.walk-left.ensures; plays = refl; written = sym (append-nil c.args.out.now.items) };
-  replicas = refl;
-}
+loop-event-init c =
+    record { done = []; notes = []; all = c.walk-left.ensures; plays = refl; written = sym (append-nil c.args.out.now.items) }
 
 pub overflow_sub-done : goal.overflow_sub-done
 overflow_sub-done c =
-    let many = count_of c.loop-event.invariant.so_far.done c.loop-event.left c.args.events.now c.loop-event.invariant.so_far.all in
+    let many = count_of c.loop-event.invariant.done c.loop-event.left c.args.events.now c.loop-event.invariant.all in
     let longer = ap length c.in-Some.ensures in
     omega (arith, many, longer, c.len.ensures, c.len-in-Err-OutOfMemory.ensures)
 
 pub overflow_sub-done-in-Err-OutOfMemory : goal.overflow_sub-done-in-Err-OutOfMemory
 overflow_sub-done-in-Err-OutOfMemory c =
-    let many = count_of c.loop-event.invariant.so_far.done c.loop-event.left c.args.events.now c.loop-event.invariant.so_far.all in
+    let many = count_of c.loop-event.invariant.done c.loop-event.left c.args.events.now c.loop-event.invariant.all in
     let longer = ap length c.in-Some.ensures in
     omega (arith, many, longer, c.len.ensures, c.len-in-Err-OutOfMemory.ensures)
 
 pub overflow_sub-done-then-is_err : goal.overflow_sub-done-then-is_err
 overflow_sub-done-then-is_err c =
-    let many = count_of c.loop-event.invariant.so_far.done c.loop-event.left c.args.events.now c.loop-event.invariant.so_far.all in
+    let many = count_of c.loop-event.invariant.done c.loop-event.left c.args.events.now c.loop-event.invariant.all in
     let longer = ap length c.in-Some.ensures in
     omega (arith, many, longer, c.len-then-is_err.ensures, c.len-then-is_err-2.ensures)
 
 pub returns-then-is_err-clause-stopped : goal.returns-then-is_err-clause-stopped
 returns-then-is_err-clause-stopped c =
-    let so_far = c.loop-event.invariant.so_far in
+    let so_far = c.loop-event.invariant in
     let events = c.args.events.now in
     let left = c.next.new.self in
     let event = c.in-Some.event in
@@ -49,7 +47,7 @@ returns-then-is_err-clause-stopped c =
 -- and at least that one
 pub returns-then-is_err-clause-wanted : goal.returns-then-is_err-clause-wanted
 returns-then-is_err-clause-wanted c =
-    let so_far = c.loop-event.invariant.so_far in
+    let so_far = c.loop-event.invariant in
     let many = count_of so_far.done c.loop-event.left c.args.events.now so_far.all in
     let longer = ap length c.in-Some.ensures in
     inl (omega (arith, many, longer, c.len-then-is_err.ensures, c.len-then-is_err-2.ensures))
@@ -57,7 +55,7 @@ returns-then-is_err-clause-wanted c =
 -- at a refused event, the events before it happened
 pub returns-in-Err-OutOfMemory-clause-stopped : goal.returns-in-Err-OutOfMemory-clause-stopped
 returns-in-Err-OutOfMemory-clause-stopped c =
-    let so_far = c.loop-event.invariant.so_far in
+    let so_far = c.loop-event.invariant in
     let plays : PlaysEvents c.args.world.now so_far.done so_far.notes c.step.new.self =
     subst (λ w. PlaysEvents c.args.world.now so_far.done so_far.notes w) (sym c.in-Err-OutOfMemory.ensures.err) so_far.plays in
     let many = count_of so_far.done c.loop-event.left c.args.events.now so_far.all in
@@ -68,7 +66,7 @@ returns-in-Err-OutOfMemory-clause-stopped c =
 
 pub returns-in-Err-OutOfMemory-clause-wanted : goal.returns-in-Err-OutOfMemory-clause-wanted
 returns-in-Err-OutOfMemory-clause-wanted c =
-    let so_far = c.loop-event.invariant.so_far in
+    let so_far = c.loop-event.invariant in
     let events = c.args.events.now in
     let many = count_of so_far.done c.loop-event.left events so_far.all in
     let longer = ap length c.in-Some.ensures in
@@ -79,21 +77,12 @@ returns-in-Err-OutOfMemory-clause-wanted c =
     (subst (λ w. MayWantMemory w c.in-Some.event) (sym c.in-Err-OutOfMemory.ensures.err) c.in-Err-OutOfMemory.ensures.wanted))
 
 pub loop-event-preserved : goal.loop-event-preserved
-loop-event-preserved c = record {
-  so_far =
-      up_to_next c.args.world.now c.args.events.now c.loop-event.left c.next.new.self c.loop-event.world c.step.new.self c.args.out.now.items
-      c.loop-event.out.items c.push_note.new.out.items c.in-Some.event c.in-Ok.note c.loop-event.invariant.so_far c.in-Some.ensures c.in-Ok.ensures.moves
-      (if_written c.push_note.result (sym c.is_err.ensures.value ∙ c.if-is_err.false) c.push_note.ensures);
-  replicas = c.in-Ok.ensures.replicas ∙ c.loop-event.invariant.replicas;
-}
+loop-event-preserved c =
+    up_to_next c.args.world.now c.args.events.now c.loop-event.left c.next.new.self c.loop-event.world c.step.new.self c.args.out.now.items
+    c.loop-event.out.items c.push_note.new.out.items c.in-Some.event c.in-Ok.note c.loop-event.invariant c.in-Some.ensures c.in-Ok.ensures.moves
+    (if_written c.push_note.result (sym c.is_err.ensures.value ∙ c.if-is_err.false) c.push_note.ensures)
 
 pub returns-clause-plays : goal.returns-clause-plays
 returns-clause-plays c =
     up_to_last c.args.world.now c.args.events.now c.loop-event.left c.loop-event.world c.args.out.now.items c.loop-event.out.items
-    c.loop-event.invariant.so_far c.in_default.ensures.0
-
-pub returns-clause-played : goal.returns-clause-played
-returns-clause-played c schedule played =
-    let all = up_to_last c.args.world.now c.args.events.now c.loop-event.left c.loop-event.world c.args.out.now.items c.loop-event.out.items
-    c.loop-event.invariant.so_far c.in_default.ensures.0 in
-    played_on schedule c.args.world.now c.args.events.now all.0 c.loop-event.world played all.1
+    c.loop-event.invariant c.in_default.ensures.0
