@@ -106,22 +106,12 @@ impl Tickets {
         if wanted <= free {
             return Ok(());
         }
-        self.add_places(wanted - free)
-    }
-
-    // Adds this many free places, or none of them.
-    #[cold]
-    fn add_places(&mut self, count: usize) -> Result<(), AllocError>
-        ensures lists { self.new.lists ≡ self.old.lists }
-        ensures free { OnOk result (self.new.free ≡ self.old.free + count) }
-        ensures places { OnOk result (self.new.places ≡ self.old.places + count) }
-        ensures err { OnErr result (self.new ≡ self.old) }
-    {
         let places = self.table.len();
+        let count = wanted - free;
         if count > NONE as usize - places {
             return Err(AllocError);
         }
-        add_free(&mut self.table, &mut self.free, count)
+        add_places(&mut self.table, &mut self.free, count)
     }
 
     /// Appends a number to the queue of a cown. Its ticket takes a free place.
@@ -169,7 +159,8 @@ impl Tickets {
 }
 
 // Adds this many free places to a table, or none of them.
-fn add_free(table: &mut Vec<Ticket>, free: &mut Vec<u32>, count: usize) -> Result<(), AllocError>
+#[cold]
+fn add_places(table: &mut Vec<Ticket>, free: &mut Vec<u32>, count: usize) -> Result<(), AllocError>
     requires fits { length table.old.items + count ≤ NONE }
     requires free { length free.old.items ≤ length table.old.items }
     requires room { length table.old.items ≤ vec_capacity free.old }
@@ -180,23 +171,9 @@ fn add_free(table: &mut Vec<Ticket>, free: &mut Vec<u32>, count: usize) -> Resul
         (length free.new.items ≡ length free.old.items + count)) }
     ensures err { OnErr result ((table.new.items ≡ table.old.items) × (free.new.items ≡ free.old.items)) }
 {
-    table.reserve(count)?;
-    free.reserve(table.len() + count - free.len())?;
-    push_places(table, free, count);
-    Ok(())
-}
-
-// Appends this many free places to a table, in the memory that there is.
-fn push_places(table: &mut Vec<Ticket>, free: &mut Vec<u32>, count: usize)
-    requires fits { length table.old.items + count ≤ NONE }
-    requires table_room { length table.old.items + count ≤ vec_capacity table.old }
-    requires free_room { length free.old.items + count ≤ vec_capacity free.old }
-    ensures linked { KeepsChains table.old.items free.old.items table.new.items free.new.items }
-    ensures table { length table.new.items ≡ length table.old.items + count }
-    ensures free { length free.new.items ≡ length free.old.items + count }
-    ensures room { vec_capacity free.new ≡ vec_capacity free.old }
-{
     let places = table.len();
+    table.reserve(count)?;
+    free.reserve(places + count - free.len())?;
     for place in places..places + count {
         table.push_reserved(Ticket {
             number: 0,
@@ -204,4 +181,5 @@ fn push_places(table: &mut Vec<Ticket>, free: &mut Vec<u32>, count: usize)
         });
         free.push_reserved(place as u32);
     }
+    Ok(())
 }

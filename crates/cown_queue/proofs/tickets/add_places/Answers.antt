@@ -1,7 +1,7 @@
 use Rattle.std.proofs.Common.{◌≡◌, ℕ, ◌+◌, length, sym, ap, ◌∙◌, arith}
 use Rattle.std.proofs.lemmas.List.{length_push}
 use Rattle.cown_queue.proofs.ChainsOfCowns.{linked_more}
-use Rattle.cown_queue.proofs.tickets.push_places.Goals as goal
+use Rattle.cown_queue.proofs.tickets.add_places.Goals as goal
 
 -- one more is free
 one_more : (new old places first place : ℕ) → new ≡ old + 1 → old + places ≡ first + place → new + places ≡ first + (place + 1)
@@ -18,5 +18,5 @@ loop-place-preserved c =
       made = ap length table ∙ length_push c.loop-place.table.items _ ∙ ap (λ n. n + 1) before.made;
       freed = one_more _ _ _ _ _ (ap length free ∙ length_push c.loop-place.free.items _) before.freed;
       table_room = rw c.push_reserved.ensures.capacity before.table_room;
-      free_room = c.push_reserved-in-loop-place.ensures.capacity ∙ before.free_room;
+      free_room = rw c.push_reserved-in-loop-place.ensures.capacity before.free_room;
     }

@@ -1,6 +1,6 @@
 use Rattle.std.proofs.Common.{◌≡◌, ◌+◌, ◌≤◌, length, vec_capacity}
 use Rattle.cown_queue.specs.inner.Chains.{KeepsChains}
-use Rattle.cown_queue.proofs.tickets.push_places.Given as goal
+use Rattle.cown_queue.proofs.tickets.add_places.Given as goal
 
 abbrev pub invariant-loop-place : goal.invariant-loop-place
 invariant-loop-place l = record {
@@ -8,5 +8,5 @@ invariant-loop-place l = record {
   made : length l.table.items ≡ l.place;
   freed : length l.free.items + l.places ≡ length l.fn.free.items + l.place;
   table_room : l.places + l.count ≤ vec_capacity l.table;
-  free_room : vec_capacity l.free ≡ vec_capacity l.fn.free;
+  free_room : l.places + l.count ≤ vec_capacity l.free;
 }
