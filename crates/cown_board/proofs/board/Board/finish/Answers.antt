@@ -122,32 +122,38 @@ invariant_of-self g c =
 pub returns : goal.returns
 returns g c =
     let known = (goal.at.returns g c).After-as_slice-cowns in
-    record { made = rw (sym c.self.view_is) (finishes_from g.B.Behaviour.touches g.B.Behaviour.effect c.self.invariant c.in-Some.position c.args.done
-    (numbered g known) (c.is_out_at.ensures.0 c.if-not-is_out_at.false) c.into_effect-reply.result.0 c.into_effect-reply.ensures.reply
-    c.number-number.result c.as_slice-cowns.result.now c.as_slice-outputs.result.now c.update_cut.new.cut c.update_cut.ensures) }
+    record {
+      made = rw (sym c.self.view_is) (finishes_from g.B.Behaviour.touches g.B.Behaviour.effect c.self.invariant c.in-Some.position c.args.done
+          (numbered g known) (c.is_out_at.ensures.0 c.if-not-is_out_at.false) c.into_effect-reply.result.0 c.into_effect-reply.ensures.reply
+          c.number-number.result c.as_slice-cowns.result.now c.as_slice-outputs.result.now c.update_cut.new.cut c.update_cut.ensures);
+    }
+
 pub returns-in_default : goal.returns-in_default
 returns-in_default g c =
     let touches = g.B.Behaviour.touches in
     let effect = g.B.Behaviour.effect in
     let board = c.self.invariant in
     let done = c.args.done in
-    record { made = subst (λ (v : BoardOf g.row.B.Denot). TakesBack touches effect v done (Err done) v) c.self.view_is
-    (
-      not_numbered touches effect board done (λ k lt same.
-          c.in_default.ensures k (omega (arith, lt, c.len.ensures, c.self.inside.log.ok)) (c.number-number.ensures ∙ same)),
-      refl,
-      refl,
-    ) }
+    record {
+      made = subst (λ (v : BoardOf g.row.B.Denot). TakesBack touches effect v done (Err done) v) c.self.view_is (
+        not_numbered touches effect board done (λ k lt same.
+            c.in_default.ensures k (omega (arith, lt, c.len.ensures, c.self.inside.log.ok)) (c.number-number.ensures ∙ same)),
+        refl,
+        refl,
+      );
+    }
+
 pub returns-then-not-is_out_at : goal.returns-then-not-is_out_at
 returns-then-not-is_out_at g c =
     let touches = g.B.Behaviour.touches in
     let effect = g.B.Behaviour.effect in
     let board = c.self.invariant in
     let done = c.args.done in
-    record { made = subst (λ (v : BoardOf g.row.B.Denot). TakesBack touches effect v done (Err done) v) c.self.view_is
-    (
-      not_inside touches effect board c.in-Some.position done (sym c.number-number.ensures ∙ c.in-Some.ensures.1)
-          (λ inside. both_ways c.is_out_at.result c.if-not-is_out_at.true (c.is_out_at.ensures.1 inside)),
-      refl,
-      refl,
-    ) }
+    record {
+      made = subst (λ (v : BoardOf g.row.B.Denot). TakesBack touches effect v done (Err done) v) c.self.view_is (
+        not_inside touches effect board c.in-Some.position done (sym c.number-number.ensures ∙ c.in-Some.ensures.1)
+            (λ inside. both_ways c.is_out_at.result c.if-not-is_out_at.true (c.is_out_at.ensures.1 inside)),
+        refl,
+        refl,
+      );
+    }

@@ -80,31 +80,43 @@ pub returns-then-self-eq-OPEN_BEHAVIOURS : goal.returns-then-self-eq-OPEN_BEHAVI
 returns-then-self-eq-OPEN_BEHAVIOURS g c =
     let touches = g.B.Behaviour.touches in
     let effect = g.B.Behaviour.effect in
-    record { made = subst (λ (v : BoardOf g.row.B.Denot). Submits v c.args.behaviour (Err Busy) v) c.self.view_is
-    (submits_busy touches effect c.self.invariant c.args.behaviour c.if-self-eq-OPEN_BEHAVIOURS.true) }
+    record {
+      made = subst (λ (v : BoardOf g.row.B.Denot). Submits v c.args.behaviour (Err Busy) v) c.self.view_is
+          (submits_busy touches effect c.self.invariant c.args.behaviour c.if-self-eq-OPEN_BEHAVIOURS.true);
+    }
+
 pub returns-then-length : goal.returns-then-length
 returns-then-length g c =
     let touches = g.B.Behaviour.touches in
     let effect = g.B.Behaviour.effect in
-    record { made = subst (λ (v : BoardOf g.row.B.Denot). Submits v c.args.behaviour (Err LogFull) v) c.self.view_is
-    (submits_full touches effect c.self.invariant c.args.behaviour c.if-self-eq-OPEN_BEHAVIOURS.false
-    (omega (arith, c.if-length.true, c.len-position.ensures, c.self.inside.log.ok))) }
+    record {
+      made = subst (λ (v : BoardOf g.row.B.Denot). Submits v c.args.behaviour (Err LogFull) v) c.self.view_is
+          (submits_full touches effect c.self.invariant c.args.behaviour c.if-self-eq-OPEN_BEHAVIOURS.false
+          (omega (arith, c.if-length.true, c.len-position.ensures, c.self.inside.log.ok)));
+    }
+
 pub returns-then-is_err : goal.returns-then-is_err
 returns-then-is_err g c =
     let touches = g.B.Behaviour.touches in
     let effect = g.B.Behaviour.effect in
     let room = c.make_room.ensures in
-    record { made = rw (room.log.0, room.states.0, sym c.self.view_is)
-    (submits_no_memory touches effect c.self.invariant c.args.behaviour c.if-self-eq-OPEN_BEHAVIOURS.false
-    (λ full. c.if-length.false (omega (arith, full, c.len-position.ensures, c.self.inside.log.ok)))) }
+    record {
+      made = rw (room.log.0, room.states.0, sym c.self.view_is)
+          (submits_no_memory touches effect c.self.invariant c.args.behaviour c.if-self-eq-OPEN_BEHAVIOURS.false
+          (λ full. c.if-length.false (omega (arith, full, c.len-position.ensures, c.self.inside.log.ok))));
+    }
+
 pub returns-then-is_err-2 : goal.returns-then-is_err-2
 returns-then-is_err-2 g c =
     let touches = g.B.Behaviour.touches in
     let effect = g.B.Behaviour.effect in
     let room = c.make_room.ensures in
-    record { made = rw (room.log.0, room.states.0, sym c.self.view_is)
-    (submits_no_memory touches effect c.self.invariant c.args.behaviour c.if-self-eq-OPEN_BEHAVIOURS.false
-    (λ full. c.if-length.false (omega (arith, full, c.len-position.ensures, c.self.inside.log.ok)))) }
+    record {
+      made = rw (room.log.0, room.states.0, sym c.self.view_is)
+          (submits_no_memory touches effect c.self.invariant c.args.behaviour c.if-self-eq-OPEN_BEHAVIOURS.false
+          (λ full. c.if-length.false (omega (arith, full, c.len-position.ensures, c.self.inside.log.ok))));
+    }
+
 pub returns : goal.returns
 returns g c =
     let touches = g.B.Behaviour.touches in
@@ -112,7 +124,9 @@ returns g c =
     let room = c.make_room.ensures in
     let pushed = c.push_reserved.ensures.items ∙ ap (λ (xs : List g.row.B.Denot). xs ++ c.args.behaviour ∷ []) room.log.0 in
     let waits = c.push_reserved-2.ensures.items ∙ ap (λ xs. xs ++ Waiting ∷ []) room.states.0 in
-    record { made = rw (pushed, waits, sym c.self.view_is)
-    (submits_next touches effect c.self.invariant c.args.behaviour (c.self.inside.base + c.len-position.result + 1) c.if-self-eq-OPEN_BEHAVIOURS.false
-    (λ full. c.if-length.false (omega (arith, full, c.len-position.ensures, c.self.inside.log.ok)))
-    (omega (arith, c.len-position.ensures, room.log.1, c.self.inside.log.ok))) }
+    record {
+      made = rw (pushed, waits, sym c.self.view_is)
+          (submits_next touches effect c.self.invariant c.args.behaviour (c.self.inside.base + c.len-position.result + 1) c.if-self-eq-OPEN_BEHAVIOURS.false
+          (λ full. c.if-length.false (omega (arith, full, c.len-position.ensures, c.self.inside.log.ok)))
+          (omega (arith, c.len-position.ensures, room.log.1, c.self.inside.log.ok)));
+    }

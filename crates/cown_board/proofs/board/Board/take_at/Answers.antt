@@ -28,11 +28,14 @@ take-requires-clause-limit g c = omega (arith, c.self.invariant.length_limit)
 pub returns-in_err-position : goal.returns-in_err-position
 returns-in_err-position g c =
     let few = c.in_err-position.ensures.outcome.0 in
-    record { made = rw c.from_residual.ensures (
-      subst (λ (v : BoardOf g.row.B.Denot). length
-          (ready_positions g.B.Behaviour.touches v.log v.states) ≤ c.args.index) c.self.view_is few,
-      c.self.view_is,
-    ) }
+    record {
+      made = rw c.from_residual.ensures (
+        subst (λ (v : BoardOf g.row.B.Denot). length
+            (ready_positions g.B.Behaviour.touches v.log v.states) ≤ c.args.index) c.self.view_is few,
+        c.self.view_is,
+      );
+    }
+
 pub index-behaviour-requires : goal.index-behaviour-requires
 index-behaviour-requires g c =
     let touches = g.B.Behaviour.touches in
