@@ -1,15 +1,12 @@
--- What a submission and a cut do, by their answers.
-use Rattle.std.proofs.Common.{◌≡◌, ◌≢◌, ℕ, ◌+◌, ℤ, Result, Ok, Err, List, [], ◌∷◌, ◌++◌, length, refl, sym, ap, ◌∙◌, arith}
+-- What a submission does, by its answer.
+use Rattle.std.proofs.Common.{◌≡◌, ◌≢◌, ℕ, ◌+◌, ℤ, Ok, Err, List, [], ◌∷◌, ◌++◌, length, refl, sym, ◌∙◌, arith}
 use Rattle.sb_calls.specs.declared.call.TheConstants.{LOG_CALLS}
 use Rattle.sb_calls.specs.declared.reply.Reply.{Reply}
 use Rattle.cown_board.proofs.JobTake.{seen}
 use Rattle.cown_board.specs.inner.BoardInvariant.{BoardInside, IsBoard}
-use Rattle.cown_board.specs.Board.{BoardOf}
-use Rattle.cown_board.specs.BoardCalls.{MakesCut, Submits}
+use Rattle.cown_board.specs.BoardCalls.{Submits}
 use Rattle.cown_board.specs.declared.board.SubmitFault.TheVariants.{Busy, LogFull, OutOfMemory}
 use Rattle.cown_board.specs.declared.board.TheConstants.{OPEN_BEHAVIOURS}
-use Rattle.cown_board.specs.declared.cut.CutFault.{CutFault}
-use Rattle.cown_board.specs.declared.cut.CutFault.TheVariants.{Pending, OutOfMemory as NoMemory}
 use Rattle.cown_board.specs.declared.state.State.TheVariants.{Waiting}
 
 module _ {B : Type 0} (touches : B → List ℕ) (effect : B → List ℤ → Reply × List ℤ) {inside : BoardInside B}
@@ -37,9 +34,3 @@ module _ {B : Type 0} (touches : B → List ℕ) (effect : B → List ℤ → Re
     omega (arith, is, board.base_length),
     refl,
   )
-
--- whatever a cut answers, nothing else of the board changes
-pub cut_alone : {B : Type 0} (old new : BoardOf B) (answer : Result ℕ CutFault) → MakesCut old answer new → new ≡ record old { cut = new.cut }
-cut_alone {B} old new (Ok number) made = made.2 ∙ ap (λ c. record old { cut = c }) (sym (ap (λ (b : BoardOf B). b.cut) made.2))
-cut_alone {B} old new (Err (Pending number)) made = made.1 ∙ ap (λ c. record old { cut = c }) (sym (ap (λ (b : BoardOf B). b.cut) made.1))
-cut_alone {B} old new (Err NoMemory) made = made.1 ∙ ap (λ c. record old { cut = c }) (sym (ap (λ (b : BoardOf B). b.cut) made.1))
