@@ -1,4 +1,4 @@
-use Rattle.std.proofs.Common.{◌≤◌, ◌≡◌, ◌+◌, true, false, vec_capacity, Ok, Err, ◌++◌, ◌∷◌, [], List, length, refl, ap, sym, ◌∙◌, subst, arith}
+use Rattle.std.proofs.Common.{◌≤◌, ◌≡◌, ◌+◌, true, false, vec_capacity, Ok, Err, ◌++◌, ◌∷◌, [], List, length, ap, sym, ◌∙◌, subst, arith}
 use Rattle.std.specs.Prelude.{Result, OnErr, OnOk}
 use Rattle.std.specs.Result.{is_err}
 use Rattle.std.proofs.lemmas.Bool.{false≢true}
