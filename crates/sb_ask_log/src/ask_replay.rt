@@ -10,7 +10,7 @@ ghost use Rattle.sb_ask_log.specs.inner.FirstAsk.{StartsWithAsk};
 ghost use Rattle.sb_ask_log.specs.LogFile.{IsOpeningText, log_magic};
 
 use crate::opening_text::is_opening_text;
-use sb_calls::{Call, Key};
+use sb_calls::{Call, Key, LOG_CALLS};
 use sb_frames::{Frame, decode};
 use sb_log::{Replay, ReplayFault};
 use sb_sequencer::{AskFault, Numbered, Sequencer};
@@ -141,7 +141,11 @@ fn number(key: Key, call: &Call, log: &mut Sequencer) -> Result<(), ReplayFault>
         (IsReplayFault ((more : List (AnyKey × AnyCall)) → IsLog (log.old.log ++ (key, call.now) ∷ more) → ⊥)) }
 {
     match log.ask(key.client, key.request, call) {
-        Ok(Numbered::New(_)) => Ok(()),
+        Ok(Numbered::New(_)) => {
+            // The log is valid: each key has one number.
+            prove!(log.length() <= LOG_CALLS as u64);
+            Ok(())
+        }
         Ok(Numbered::Repeat(_)) => Err(ReplayFault::Refused),
         Err(AskFault::Mismatch(_)) => Err(ReplayFault::Refused),
         Err(AskFault::LogFull) => Err(ReplayFault::Refused),

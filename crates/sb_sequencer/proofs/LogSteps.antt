@@ -5,7 +5,7 @@ use Rattle.std.proofs.lemmas.List.{take_all, take-append-le, length-take-le, len
 use Rattle.std.proofs.lemmas.List.Quantifiers.{all_pairs_push}
 use Rattle.sb_calls.specs.declared.ask.Key.{Key}
 use Rattle.sb_calls.specs.declared.call.Call.{Call}
-use Rattle.sb_sequencer.specs.Answer.{AnswersAsk, LogAfter, ExtendsFirstAsks}
+use Rattle.sb_sequencer.specs.Answer.{AnswersAsk, LogAfter}
 use Rattle.sb_sequencer.specs.Log.{log_with, log_after}
 use Rattle.sb_sequencer.specs.Numbering.{same_key, has_key, firsts_after, first_asks, index_of_key, IsLog}
 use Rattle.sb_sequencer.specs.declared.answer.AskFault.{AskFault}
@@ -134,10 +134,10 @@ IsLog-answered old new ask (Ok (New n)) is h e = subst IsLog (sym e) (IsLog-push
 IsLog-answered old new ask (Ok (Repeat n)) is h e = subst IsLog (sym e) is
 IsLog-answered old new ask (Err fault) is h e = subst IsLog (sym e) is
 
--- if the log steps, it is the first asks with this one
-pub first_asks-from_step : (asks old new : List (Key × Call)) (ask : Key × Call) (result : Result Numbered AskFault)
-    → (result ≢ Err OutOfMemory → new ≡ log_with old ask) → ExtendsFirstAsks asks old ask result new
-first_asks-from_step asks old new ask (Ok numbered) h = λ e. h (λ other. cc) ∙ ap (λ log. log_with log ask) e ∙ sym (first_asks-push asks ask)
-first_asks-from_step asks old new ask (Err (Mismatch n)) h = λ e. h (λ other. cc) ∙ ap (λ log. log_with log ask) e ∙ sym (first_asks-push asks ask)
-first_asks-from_step asks old new ask (Err LogFull) h = λ e. h (λ other. cc) ∙ ap (λ log. log_with log ask) e ∙ sym (first_asks-push asks ask)
-first_asks-from_step asks old new ask (Err OutOfMemory) h = tt
+-- so a log of first asks is then the first asks with this one
+pub first_asks-answered : (asks old new : List (Key × Call)) (ask : Key × Call) (result : Result Numbered AskFault) → AnswersAsk old ask result
+    → LogAfter old ask result new → result ≢ Err OutOfMemory → old ≡ first_asks asks → new ≡ first_asks (asks ++ ask ∷ [])
+first_asks-answered asks old new ask result answered log other e =
+    log_with-answered old new ask result answered log other
+    ∙ ap (λ firsts. log_with firsts ask) e
+    ∙ sym (first_asks-push asks ask)

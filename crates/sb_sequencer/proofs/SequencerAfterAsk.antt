@@ -6,13 +6,13 @@ use Rattle.sb_calls.specs.declared.call.Call.{Call}
 use Rattle.sb_calls.specs.declared.reply.Reply.{Reply}
 use Rattle.sb_sequencer.specs.Answer.{AnswersAsk, LogAfter}
 use Rattle.sb_sequencer.specs.inner.Rooms.{HasRooms}
-use Rattle.sb_sequencer.specs.Sequencer.{SequencerOf, IsSequencer, state_after_ask}
+use Rattle.sb_sequencer.specs.Sequencer.{SequencerOf, state_after_ask}
 use Rattle.sb_sequencer.specs.inner.Padding.{padded_answers}
 use Rattle.sb_sequencer.specs.declared.answer.AskFault.{AskFault}
 use Rattle.sb_sequencer.specs.declared.answer.Numbered.{Numbered}
 use Rattle.sb_sequencer.specs.declared.answer.Numbered.TheVariants.{New, Repeat}
 use Rattle.sb_sequencer.proofs.LogSteps.{IsLog-answered}
-use Rattle.sb_sequencer.proofs.Padding.{length-padded_answers, padded_answers-push}
+use Rattle.sb_sequencer.proofs.Padding.{padded_answers-push}
 
 -- the log never gets shorter
 grows : (old new : List (Key × Call)) (ask : Key × Call) (result : Result Numbered AskFault) → LogAfter old ask result new → length old ≤ length new
@@ -57,16 +57,4 @@ asked_state old new recorded checkpoints kept after ask (Err fault) few e same =
   recorded = recorded;
   checkpoints = checkpoints;
   answers = padded_answers (length (e j)) (same j);
-}
-
--- a sequencer with its rooms is one
-pub rooms_sequencer : (log : List (Key × Call)) (recorded checkpoints : List ℕ) (kept : List (Option Reply)) (room : ℕ)
-    → HasRooms log recorded checkpoints kept room
-    → IsSequencer (record { log = log; recorded = recorded; checkpoints = checkpoints; answers = padded_answers (length log) kept })
-rooms_sequencer log recorded checkpoints kept room is = record {
-  log = is.log;
-  answers = length-padded_answers (length log) kept is.answers;
-  recorded = is.recorded;
-  same_length = is.same_length;
-  checkpoints = is.checkpoints;
 }

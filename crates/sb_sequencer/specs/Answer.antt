@@ -2,6 +2,7 @@
 use Rattle.std.specs.Prelude.{◌≡◌, ◌≢◌, ℕ, ◌+◌, ◌<◌, ◌≤◌, Some, None, Result, Ok, Err, List, [], ◌∷◌, ◌++◌, length, slice_get}
 use Rattle.sb_calls.specs.declared.ask.Key.{Key}
 use Rattle.sb_calls.specs.declared.call.Call.{Call}
+use Rattle.sb_sequencer.specs.Log.{log_with}
 use Rattle.sb_sequencer.specs.Numbering.{first_asks, index_of_key}
 use Rattle.sb_sequencer.specs.declared.answer.AskFault.{AskFault}
 use Rattle.sb_sequencer.specs.declared.answer.AskFault.TheVariants.{Mismatch, LogFull, OutOfMemory}
@@ -29,11 +30,14 @@ LogAfter old ask (Ok (New n)) new = new ≡ old ++ ask ∷ []
 LogAfter old ask (Ok (Repeat n)) new = new ≡ old
 LogAfter old ask (Err fault) new = new ≡ old
 
--- if the log is the first asks of these, then after this ask it is the first asks of these and this
--- one; an ask that is refused memory doesn't count
-abbrev pub ExtendsFirstAsks : List (Key × Call) → List (Key × Call) → Key × Call → Result Numbered AskFault
-    → List (Key × Call) → Type 0
-ExtendsFirstAsks asks old ask (Ok numbered) new = old ≡ first_asks asks → new ≡ first_asks (asks ++ ask ∷ [])
-ExtendsFirstAsks asks old ask (Err (Mismatch n)) new = old ≡ first_asks asks → new ≡ first_asks (asks ++ ask ∷ [])
-ExtendsFirstAsks asks old ask (Err LogFull) new = old ≡ first_asks asks → new ≡ first_asks (asks ++ ask ∷ [])
-ExtendsFirstAsks asks old ask (Err OutOfMemory) new = Unit {0}
+-- an ask that isn't refused memory takes the log one step
+abbrev pub AsksStepLog : Type 0
+AsksStepLog = (old new : List (Key × Call)) (ask : Key × Call) (answer : Result Numbered AskFault)
+    → AnswersAsk old ask answer → LogAfter old ask answer new → answer ≢ Err OutOfMemory → new ≡ log_with old ask
+
+-- if the log is the first asks of these, then after an ask that isn't refused memory it is the first
+-- asks of these and this one
+abbrev pub AsksExtendFirstAsks : Type 0
+AsksExtendFirstAsks = (asks old new : List (Key × Call)) (ask : Key × Call) (answer : Result Numbered AskFault)
+    → AnswersAsk old ask answer → LogAfter old ask answer new → answer ≢ Err OutOfMemory
+    → old ≡ first_asks asks → new ≡ first_asks (asks ++ ask ∷ [])

@@ -13,7 +13,7 @@ mod note;
 mod sequencer;
 
 pub use answer::{AskFault, Numbered};
-pub use laws::{limits, numbering};
+pub use laws::{asks_step_the_log, limits, numbering};
 pub use note::{AckNote, AnswerNote, HaveNote};
 pub use sb_calls::REPLICAS;
 pub use sequencer::{RESEND, Sequencer};

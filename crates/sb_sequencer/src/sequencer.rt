@@ -1,14 +1,11 @@
 //! The log of numbered requests, and what the replicas reported.
-ghost use Rattle.std.specs.Prelude.{◌≡◌, ◌≢◌, ◌-◌, ◌≤◌, ◌↔◌, length, replicate, slice_get, List, Err, IfSome, IsTrue, IfOk};
+ghost use Rattle.std.specs.Prelude.{◌≡◌, ◌≤◌, length, replicate, slice_get, IfSome, IfOk};
 ghost use Rattle.std.specs.Option.{option_copied};
-ghost use Rattle.sb_calls.specs.declared.ask.Key.{Key as AnyKey};
-ghost use Rattle.sb_calls.specs.declared.call.Call.{Call as AnyCall};
-ghost use Rattle.sb_sequencer.specs.Answer.{AnswersAsk, LogAfter, ExtendsFirstAsks};
+ghost use Rattle.sb_sequencer.specs.Answer.{AnswersAsk, LogAfter};
 ghost use Rattle.sb_sequencer.specs.Entries.{entries_after, entry_of, entries_to_resend};
-ghost use Rattle.sb_sequencer.specs.Log.{log_with};
 ghost use Rattle.sb_sequencer.specs.Notes.{IsAnswerNote, after_ack, after_answer, answer_of, note_of_ack};
 ghost use Rattle.sb_sequencer.specs.Numbering.{IsLog, ask_of_number, call_of_number, calls_of, number_of_key};
-ghost use Rattle.sb_sequencer.specs.Sequencer.{IsSequencer, state_after_ask, empty_sequencer, sequencer_with};
+ghost use Rattle.sb_sequencer.specs.Sequencer.{state_after_ask, empty_sequencer, sequencer_with};
 
 use crate::answer::{AskFault, Numbered};
 use crate::answers::{store_answer, stored_answer};
@@ -167,14 +164,6 @@ impl Sequencer {
         // stays.
         ensures state { self.new
             ≡ state_after_ask self.old (record { client = client; request = request }, call.now) result }
-        // Unless memory is refused, the log takes one step with this ask.
-        ensures step { result ≢ Err AskFault.OutOfMemory
-            → self.new.log ≡ log_with self.old.log (record { client = client; request = request }, call.now) }
-        // Whatever was asked before, the log is the first ask of each key.
-        ensures numbering { (asks : List (AnyKey × AnyCall))
-            → ExtendsFirstAsks asks self.old.log
-            (record { client = client; request = request }, call.now) result self.new.log }
-        ensures valid { IsSequencer self.new }
     {
         let key = Key { client, request };
         ask_log(&mut self.log, &mut self.answers, key, call)

@@ -103,6 +103,8 @@ impl DurableSequencer {
         }
         let answer = self.sequencer.ask(client, request, call);
         if let Ok(Numbered::New(_)) = answer {
+            // The log is valid: each key has one number.
+            prove!(self.sequencer.length() <= LOG_CALLS as u64);
             self.log.append_reserved(Key { client, request }, call);
         }
         answer

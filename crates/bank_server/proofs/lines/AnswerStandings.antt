@@ -1,5 +1,5 @@
 -- From the sequencer's answer to the standing of a line.
-use Rattle.std.proofs.Common.{◌≡◌, ℕ, ◌+◌, ◌==◌, ◌≤◌, ◌^◌, Option, Some, None, Result, Ok, Err, is_some, false, List, [], ◌∷◌, ◌++◌, length, refl, sym, ap, ◌∙◌, arith}
+use Rattle.std.proofs.Common.{◌≡◌, ◌≢◌, ℕ, ◌+◌, ◌==◌, ◌≤◌, ◌^◌, Option, Some, None, Result, Ok, Err, is_some, false, List, [], ◌∷◌, ◌++◌, length, refl, sym, ap, ◌∙◌, arith}
 use Rattle.std.proofs.lemmas.Bool.{cond-false, cond-true, ne_eqb}
 use Rattle.std.proofs.lemmas.Option.{slice_get_within}
 use Rattle.sb_calls.proofs.CownContents.{eqb-refl}
@@ -7,8 +7,8 @@ use Rattle.sb_calls.specs.declared.ask.AskLine.{AskLine}
 use Rattle.sb_calls.specs.declared.ask.Key.{Key}
 use Rattle.sb_calls.specs.declared.call.Call.{Call}
 use Rattle.sb_sequencer.proofs.Keys.{has_key-place}
-use Rattle.sb_sequencer.proofs.LogSteps.{first_asks-push, log_with-full}
-use Rattle.sb_sequencer.specs.Answer.{AnswersAsk, LogAfter, ExtendsFirstAsks}
+use Rattle.sb_sequencer.proofs.LogSteps.{first_asks-answered, first_asks-push, log_with-full}
+use Rattle.sb_sequencer.specs.Answer.{AnswersAsk, LogAfter}
 use Rattle.sb_sequencer.specs.Numbering.{has_key, first_asks, index_of_key}
 use Rattle.sb_sequencer.specs.declared.answer.AskFault.{AskFault}
 use Rattle.sb_sequencer.specs.declared.answer.AskFault.TheVariants as faults
@@ -47,13 +47,9 @@ stands_so old new ask (Err faults.LogFull) standing is answered log =
     sym (some_is is) ∙ by_same_log (λ l. standing_of l ask) log (answered_full old ask answered.0)
 stands_so old new ask (Err faults.OutOfMemory) standing is answered log = absurd (none_is_some is)
 
-numbers_so : (asks old new : List (Key × Call)) (ask : Key × Call) (answer : Result Numbered AskFault) (standing : Standing)
-    → standing_of_answer answer ≡ Some standing → old ≡ first_asks asks → ExtendsFirstAsks asks old ask answer new → new ≡ first_asks (asks ++ ask ∷ [])
-numbers_so asks old new ask (Ok (New n)) standing is e numbered = numbered e
-numbers_so asks old new ask (Ok (Repeat n)) standing is e numbered = numbered e
-numbers_so asks old new ask (Err (faults.Mismatch n)) standing is e numbered = numbered e
-numbers_so asks old new ask (Err faults.LogFull) standing is e numbered = numbered e
-numbers_so asks old new ask (Err faults.OutOfMemory) standing is e numbered = absurd (none_is_some is)
+-- an answer with a standing isn't that memory was refused
+not_refused : (answer : Result Numbered AskFault) (standing : Standing) → standing_of_answer answer ≡ Some standing → answer ≢ Err faults.OutOfMemory
+not_refused answer standing is refused = none_is_some (sym (ap standing_of_answer refused) ∙ is)
 
 -- and it is counted by its standing
 pub counted_so : (counts : AskCounts) (old : List (Key × Call)) (ask : Key × Call) (answer : Result Numbered AskFault) (standing : Standing)
@@ -72,9 +68,11 @@ counted_so counts old ask (Err faults.OutOfMemory) standing is answered = absurd
 -- what the sequencer promises of an answer gives the standing
 pub asks_one : (asks old new : List (Key × Call)) (ask : Key × Call) (answer : Result Numbered AskFault) (standing : Standing)
     → standing_of_answer answer ≡ Some standing → old ≡ first_asks asks
-    → AnswersAsk old ask answer → LogAfter old ask answer new → ExtendsFirstAsks asks old ask answer new → AddsAsk asks ask new standing
-asks_one asks old new ask answer standing is e answered log numbered =
-    (numbers_so asks old new ask answer standing is e numbered, stands_so old new ask answer standing is answered log)
+    → AnswersAsk old ask answer → LogAfter old ask answer new → AddsAsk asks ask new standing
+asks_one asks old new ask answer standing is e answered log = (
+  first_asks-answered asks old new ask answer answered log (not_refused answer standing is) e,
+  stands_so old new ask answer standing is answered log,
+)
 
 some_is_false : (k : ℕ) → is_some (Some k) ≡ false → ⊥
 some_is_false k e = cc

@@ -1,10 +1,8 @@
 use Rattle.std.proofs.Common.{ap, ◌∙◌}
 use Rattle.sb_calls.specs.declared.ask.Key.{Key}
 use Rattle.sb_calls.specs.declared.call.Call.{Call}
-use Rattle.sb_sequencer.specs.Log.{log_with}
 use Rattle.sb_sequencer.specs.Sequencer.{state_after_ask}
-use Rattle.sb_sequencer.proofs.SequencerAfterAsk.{asked_rooms, asked_state, rooms_sequencer}
-use Rattle.sb_sequencer.proofs.LogSteps.{first_asks-from_step, log_with-answered}
+use Rattle.sb_sequencer.proofs.SequencerAfterAsk.{asked_rooms, asked_state}
 use Rattle.sb_sequencer.proofs.sequencer.Sequencer.ask.Goals as goal
 
 pub invariant_of-self : goal.invariant_of-self
@@ -21,17 +19,3 @@ returns-clause-state c =
     asked_state s.log c.ask_log.new.log s.recorded.items s.checkpoints.items s.answers.items
     c.ask_log.new.answers.items ask c.ask_log.result c.self.invariant.answers c.ask_log.ensures.log c.ask_log.ensures.unchanged
     ∙ ap (λ s. state_after_ask s ask c.ask_log.result) c.self.view_is
-
-pub returns-clause-step : goal.returns-clause-step
-returns-clause-step c other =
-    let ask : Key × Call = (record { client = c.args.client; request = c.args.request }, c.args.call.now) in
-    log_with-answered c.self.inside.log c.ask_log.new.log ask _ c.ask_log.ensures.answer c.ask_log.ensures.log other
-    ∙ ap (λ s. log_with s.log ask) c.self.view_is
-
-pub returns-clause-numbering : goal.returns-clause-numbering
-returns-clause-numbering c asks = first_asks-from_step asks c.args.self.now.log c.ask_log.new.log _ _ (returns-clause-step c)
-
-pub returns-clause-valid : goal.returns-clause-valid
-returns-clause-valid c =
-    let s = c.self.inside in
-    rooms_sequencer c.ask_log.new.log s.recorded.items s.checkpoints.items c.ask_log.new.answers.items _ (invariant_of-self c)

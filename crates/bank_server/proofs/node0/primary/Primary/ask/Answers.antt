@@ -1,6 +1,7 @@
 use Rattle.std.proofs.Common.{◌≡◌, List, length, ap, sym, subst, ◌∙◌}
 use Rattle.sb_calls.specs.declared.ask.Key.{Key}
 use Rattle.sb_calls.specs.declared.call.Call.{Call}
+use Rattle.sb_sequencer.specs.Numbering.{IsLog}
 use Rattle.sb_sequencer.specs.Sequencer.{SequencerOf}
 use Rattle.bank_server.specs.inner.AskSteps.{ExtendsLog}
 use Rattle.bank_server.specs.inner.CountedAsks.{counts_by}
@@ -20,7 +21,7 @@ returns-clause-asked g c =
       | in-Some w ↦ rw (w.result-is) (λ asks e.
           asks_one asks c.deref_mut.result.now.log c.ask-answer.new.self.log (c.args.key, c.args.call.now) c.ask-answer.result
           w.in-Some.standing (sym w.in-Some.ensures)
-          (log ∙ e) c.ask-answer.ensures.answer c.ask-answer.ensures.log (c.ask-answer.ensures.numbering asks))
+          (log ∙ e) c.ask-answer.ensures.answer c.ask-answer.ensures.log)
       | in-None w ↦ rw (w.result-is) tt
     ]
 
@@ -31,8 +32,9 @@ invariant_of-self g c =
     let extends : ExtendsLog old new =
     subst (λ (l : List (Key × Call)). ExtendsLog l new) (ap (λ (s : SequencerOf). s.log) c.deref_mut.ensures.value)
     (extends_by_answer c.deref_mut.result.now.log new (c.args.key, c.args.call.now) c.ask-answer.result c.ask-answer.ensures.log) in
+    let valid : IsLog new = subst (λ (s : SequencerOf). IsLog s.log) c.deref.ensures c.length.ensures.valid in
     kept_by_more g.K.Keeper.Keeps old new extends.0 c.self.inside.counts c.count_answer.new.self c.self.inside.keeper c.self.inside.node.value
-    c.self.invariant c.ask-answer.ensures.valid.log extends.1
+    c.self.invariant valid extends.1
 
 pub returns-clause-counted : goal.returns-clause-counted
 returns-clause-counted g c =
