@@ -1,5 +1,5 @@
 -- Two replicas that agree, and how they differ.
-use Rattle.std.specs.Prelude.{◌≡◌, ◌≢◌, ◌⊎◌, ◌<◌, ℕ, ℤ, Some, List, slice_get, take}
+use Rattle.std.specs.Prelude.{◌≡◌, ◌≢◌, ◌⊎◌, ◌<◌, ◌≤◌, ℕ, ℤ, Some, List, slice_get, take}
 use Rattle.sb_rows.specs.Balances.{Balances}
 use Rattle.sb_calls.specs.Behaviour.{declared_cowns, effect_of}
 use Rattle.sb_calls.specs.Cowns.{contents_of}
@@ -13,22 +13,34 @@ use Rattle.bank_server.specs.declared.followers.stray_reason.StrayReason.TheVari
 abbrev pub final_contents : BoardOf Op → List ℤ
 final_contents board = contents_after declared_cowns effect_of (contents_of board.opening) board.log
 
--- both boards have the same length, and the same reply to each number
-pub record HasSameReplies (one other : BoardOf Op) : Type 0 where
+-- both boards have the same length, and the same reply to each number above this one
+pub record HasSameRepliesSince (from : ℕ) (one other : BoardOf Op) : Type 0 where
   pub lengths : length_of one ≡ length_of other
-  pub replies : (number : ℕ) → reply_in one number ≡ reply_in other number
+  pub replies : (number : ℕ) → from < number → reply_in one number ≡ reply_in other number
 
--- nothing that either has is unfinished, and they have the same replies and the same columns
-pub record Agrees (one other : BoardOf Op) : Type 0 where
+-- nothing that either has is unfinished, and they have the same length, the same reply to each number
+-- above this one, and the same columns
+pub record AgreesSince (from : ℕ) (one other : BoardOf Op) : Type 0 where
   pub one_idle : unfinished_of one ≡ 0
   pub other_idle : unfinished_of other ≡ 0
-  pub same : HasSameReplies one other
+  pub same : HasSameRepliesSince from one other
   pub columns : final_contents one ≡ final_contents other
 
--- the first number to which they have other replies, or to which only one has a reply
-abbrev pub IsFirstReply : BoardOf Op → BoardOf Op → ℕ → Type 0
-IsFirstReply one other number = (reply_in one number ≢ reply_in other number)
-    × ((k : ℕ) → k < number → reply_in one k ≡ reply_in other k)
+-- the same with all replies, whose numbers begin at 1
+abbrev pub Agrees : BoardOf Op → BoardOf Op → Type 0
+Agrees one other = AgreesSince 0 one other
+
+-- boards that have the same replies up to a number, and agree since then, agree
+abbrev pub ComparisonsAddUp : Type 0
+ComparisonsAddUp = (one other : BoardOf Op) (from : ℕ)
+    → ((number : ℕ) → number ≤ from → reply_in one number ≡ reply_in other number)
+    → AgreesSince from one other → Agrees one other
+
+-- to this number they have other replies, or only one has a reply; to those between `from` and it they
+-- have the same
+abbrev pub IsFirstReply : ℕ → BoardOf Op → BoardOf Op → ℕ → Type 0
+IsFirstReply from one other number = (reply_in one number ≢ reply_in other number)
+    × ((k : ℕ) → from < k → k < number → reply_in one k ≡ reply_in other k)
 
 -- the first place at which two columns differ
 abbrev pub IsFirstDifference : List ℤ → List ℤ → ℕ → Type 0
@@ -47,14 +59,16 @@ pub record DiffersAt (one other : BoardOf Op) (place : ℕ) : Type 0 where
   pub right_is : contents_of right ≡ final_contents other
   pub first : IsFirstPlace left right place
 
--- how boards differ that don't agree, where the first has these names: the first reason that holds
-abbrev pub DiffersSo : List (List ℕ) → BoardOf Op → BoardOf Op → StrayReason → Type 0
-DiffersSo names one other NoThread = ⊥
-DiffersSo names one other OutOfMemory = ⊥
-DiffersSo names one other Frame = ⊥
-DiffersSo names one other Unfinished = (unfinished_of one ≢ 0) ⊎ (unfinished_of other ≢ 0)
-DiffersSo names one other (Entry number) = (unfinished_of one ≡ 0) × (unfinished_of other ≡ 0)
-    × IsFirstReply one other number
-DiffersSo names one other Customers = HasSameReplies one other × (final_contents one ≢ final_contents other)
-DiffersSo names one other (Customer name) = HasSameReplies one other
+-- how boards differ that don't agree since this number, where the first has these names: the first reason
+-- that holds
+abbrev pub DiffersSo : ℕ → List (List ℕ) → BoardOf Op → BoardOf Op → StrayReason → Type 0
+DiffersSo from names one other NoThread = ⊥
+DiffersSo from names one other OutOfMemory = ⊥
+DiffersSo from names one other Frame = ⊥
+DiffersSo from names one other Unfinished = (unfinished_of one ≢ 0) ⊎ (unfinished_of other ≢ 0)
+DiffersSo from names one other (Entry number) = (unfinished_of one ≡ 0) × (unfinished_of other ≡ 0)
+    × IsFirstReply from one other number
+DiffersSo from names one other Customers = HasSameRepliesSince from one other
+    × (final_contents one ≢ final_contents other)
+DiffersSo from names one other (Customer name) = HasSameRepliesSince from one other
     × (place : ℕ) × (slice_get names place ≡ Some name) × DiffersAt one other place

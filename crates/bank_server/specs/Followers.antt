@@ -19,9 +19,10 @@ pub record IsAtOpening {S : Type 0} (names : List (List ℕ)) (opening : Balance
   pub board : replica.board ≡ board_at_opening opening []
   pub held : replica.held ≡ none_held
 
--- the number of nodes, with node 0; the number of followers that listen, 0 once they were compared;
--- and the number of entries of the log that they were sent
+-- the number of nodes, with node 0; the number of followers that listen; the number of entries of the
+-- log that they were sent; and how many entries node 0 had when they were compared last, 0 before
 pub record FollowersOf : Type 0 where
   pub nodes : ℕ
   pub listening : ℕ
   pub sent : ℕ
+  pub compared : ℕ

@@ -1,8 +1,10 @@
-//! The laws that tie the output to the sequencer's answers.
+//! The laws that tie the output to the sequencer's answers, and comparisons to one another.
+ghost use Rattle.bank_server.specs.Agreement.{ComparisonsAddUp};
 ghost use Rattle.bank_server.specs.AskResults.{AnswersAreFinal};
 ghost use Rattle.bank_server.specs.Session.{ToldOutcomesStand};
 ghost use Rattle.std.specs.Prelude.{◌≡◌};
 
+use crate::followers::COMPARED_ENTRIES;
 use crate::session::{ASKS_BEFORE_FLUSH, ASKS_OF_SESSION, READ_BYTES, UNREAD_BYTES};
 
 /// The sequencer's answer to an ask (a new number, a repeat, a mismatch or a full log) is its
@@ -15,6 +17,17 @@ pub fn answers_are_final()
 /// number depends on the calls up to it alone.
 pub fn told_outcomes_stand()
     ensures { ToldOutcomesStand }
+{}
+
+/// Boards that have the same replies up to a number, and agree since then, agree: what a comparison
+/// found to be the same isn't compared again.
+pub fn comparisons_add_up()
+    ensures { ComparisonsAddUp }
+{}
+
+/// After how many entries node 0 is compared with its followers.
+pub fn limits()
+    ensures { COMPARED_ENTRIES ≡ 65536 }
 {}
 
 /// The bounds of a client that is served beside others, and of one that is served alone.

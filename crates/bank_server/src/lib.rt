@@ -13,9 +13,13 @@ mod session;
 
 pub use answers::{push_answers, push_output};
 pub use fault::{InputFault, RunFault};
-pub use followers::{Followers, ReadyFollowers, StrayReason, agree, difference, with_followers};
+pub use followers::{
+    COMPARED_ENTRIES, Followers, ReadyFollowers, StrayReason, agree, difference, with_followers,
+};
 pub use input::{LogNumber, PreparedInput, Standing, ask_lines, prepare};
-pub use laws::{answers_are_final, client_bounds, told_outcomes_stand};
+pub use laws::{
+    answers_are_final, client_bounds, comparisons_add_up, limits, told_outcomes_stand,
+};
 pub use node0::{AskCounts, Duty, Primary, SaveFault, WorkerCount, carry_out_log, with_team};
 pub use run::run_text;
 pub use session::{

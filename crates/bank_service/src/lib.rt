@@ -5,6 +5,7 @@
 mod client;
 mod client_stream;
 mod first_look;
+mod followers;
 mod found_bank;
 mod laws;
 mod leaving;
@@ -34,5 +35,5 @@ pub use opening::whole_opening;
 pub use serve_fault::ServeFault;
 pub use server::Server;
 pub use serving::{ServedBank, serve, serve_bank, serve_beside};
-pub use serving_many::serve_many;
+pub use serving_many::{serve_many, serve_many_beside};
 pub use socket_writer::SocketWriter;

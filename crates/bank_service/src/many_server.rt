@@ -14,6 +14,7 @@ ghost use Rattle.bank_service.specs.ServeOutput.{PrintsLines, ServerContinues, s
 ghost use Rattle.bank_service.specs.inner.AtOnceSteps.{ServesOver, ServesSome};
 ghost use Rattle.bank_service.specs.inner.StepFaults.{IsEnding, IsPrintFault};
 
+use crate::followers::{compare_if_due, feed_if_many};
 use crate::printing::{print_log, print_port_number, print_rows, print_session};
 use crate::serve_fault::ServeFault;
 use crate::session_end::finish_session;
@@ -23,15 +24,11 @@ use cown_workers::Crew;
 use program_words::Plan;
 use sb_ask_log::{Keeper, NoKeeper};
 use sb_checkpoint::CheckpointStore;
-use sb_sequencer::Sequencer;
-use std::alloc::{AllocError, Global};
+use std::alloc::Global;
 use std::io::Write;
 use std::sync::Wait;
 use std::thread::Threads;
 use std::time::Clock;
-
-// How many entries are numbered before the followers are sent them, unless a session ends.
-const FEED: u64 = 1_024;
 
 /// A bank, the sessions of clients who are served at once, and the writer where it prints.
 #[derive(Drop)]
@@ -119,11 +116,12 @@ where
     {
         // The log that the bank opens with is executed, and sent to the followers.
         finish_session(&mut self.primary, followers, false, crew)?;
+        followers.compare_if_due(self.primary.node())?;
         print_log(self.alloc, &self.primary, &mut self.writer)?;
         print_port_number(self.alloc, self.plan.host, self.port, &mut self.writer)?;
         self.serve_all(rt, followers, crew)?;
         finish_session(&mut self.primary, followers, self.plan.saves, crew)?;
-        followers.compare(rt, self.primary.node())?;
+        followers.compare(self.primary.node())?;
         print_log(self.alloc, &self.primary, &mut self.writer)?;
         print_rows(self.alloc, &self.primary, &mut self.writer)
     }
@@ -150,7 +148,8 @@ where
         ensures none_out { OnOk result (C.keeps ≡ false → HasNoneOut self.new.primary.node.board) }
         ensures nodes { followers.new.nodes ≡ followers.old.nodes }
         ensures plan { self.new.plan ≡ self.old.plan }
-        ensures fault { IfErr result (IsFinishFault (C.keeps ≡ true) self.old.plan.saves K.fails) }
+        ensures fault { IfErr result (IsServingFault followers.old.nodes (C.keeps ≡ true) self.old.plan.saves
+            K.fails) }
     {
         for before in 0..self.plan.sessions {
             self.serve_next(before + 1, rt, followers, crew)?;
@@ -182,8 +181,8 @@ where
         ensures none_out { OnOk result (HasNoneOut self.new.primary.node.board) }
         ensures nodes { followers.new.nodes ≡ followers.old.nodes }
         ensures plan { self.new.plan ≡ self.old.plan }
-        ensures fault { IfErr result (IsFinishFault (C.keeps ≡ false → ¬ HasNoneOut self.old.primary.node.board)
-            self.old.plan.saves K.fails) }
+        ensures fault { IfErr result (IsServingFault followers.old.nodes
+            (C.keeps ≡ false → ¬ HasNoneOut self.old.primary.node.board) self.old.plan.saves K.fails) }
     {
         let mut fed = self.primary.log().length();
         for _ in rt.forever() {
@@ -195,8 +194,8 @@ where
         unreachable!()
     }
 
-    // Waits until there is something to do, and serves once around. If that fails, the session with this
-    // number is the next that is over.
+    // Waits until there is something to do, serves once around, and compares node 0 with the followers, if
+    // that is due. If serving fails, the session with this number is the next that is over.
     fn serve_round<R: Wait, C: Crew>(
         &mut self,
         number: usize,
@@ -217,15 +216,15 @@ where
         ensures writer { OnOk result (W.contents self.new.writer ≡ W.contents self.old.writer) }
         ensures nodes { followers.new.nodes ≡ followers.old.nodes }
         ensures plan { self.new.plan ≡ self.old.plan }
-        ensures fault { IfErr result (IsFinishFault (C.keeps ≡ false → ¬ HasNoneOut self.old.primary.node.board)
-            self.old.plan.saves K.fails) }
+        ensures fault { IfErr result (IsServingFault followers.old.nodes
+            (C.keeps ≡ false → ¬ HasNoneOut self.old.primary.node.board) self.old.plan.saves K.fails) }
     {
         self.sessions.wait()?;
         if let Err(fault) = self.sessions.serve(&mut self.primary, crew) {
             return Err(self.stop(number, fault));
         }
         feed_if_many(self.primary.log(), fed, followers)?;
-        Ok(())
+        compare_if_due(&mut self.primary, followers, crew)
     }
 
     // Prints how the next session ended, of a server that ends with this fault.
@@ -273,22 +272,6 @@ where
         self.sessions.leave(over);
         printed
     }
-}
-
-// Sends the followers the entries that they lack, if there are many since this many were fed.
-fn feed_if_many<R: Wait>(
-    log: &Sequencer,
-    fed: &mut u64,
-    followers: &mut Followers<'_, R>,
-) -> Result<(), AllocError>
-    ensures nodes { followers.new.nodes ≡ followers.old.nodes }
-{
-    if log.length().saturating_sub(*fed) < FEED {
-        return Ok(());
-    }
-    followers.feed(log)?;
-    *fed = log.length();
-    Ok(())
 }
 
 // The fault of a server whose turn failed so.

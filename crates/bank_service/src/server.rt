@@ -112,12 +112,13 @@ where
         print_log(self.alloc, &self.primary, &mut self.writer)?;
         print_port(self.alloc, self.plan.host, &self.listener, &mut self.writer)?;
         self.serve_all(rt, followers, crew)?;
-        followers.compare(rt, self.primary.node())?;
+        followers.compare(self.primary.node())?;
         print_log(self.alloc, &self.primary, &mut self.writer)?;
         print_rows(self.alloc, &self.primary, &mut self.writer)
     }
 
-    // Serves the clients, one after another.
+    // Serves the clients, one after another. Before each, node 0 is compared with the followers, if that
+    // is due.
     fn serve_all<R, C>(
         &mut self,
         rt: &R,
@@ -138,9 +139,11 @@ where
             self.old.plan.sessions self.old.primary self.new.primary) }
         ensures nodes { followers.new.nodes ≡ followers.old.nodes }
         ensures plan { self.new.plan ≡ self.old.plan }
-        ensures fault { IfErr result (IsFinishFault (C.keeps ≡ true) self.old.plan.saves K.fails) }
+        ensures fault { IfErr result (IsServingFault followers.old.nodes (C.keeps ≡ true) self.old.plan.saves
+            K.fails) }
     {
         for before in 0..self.plan.sessions {
+            followers.compare_if_due(self.primary.node())?;
             self.serve_next(before + 1, rt, followers, crew)?;
         }
         Ok(())

@@ -40,9 +40,10 @@ pub struct ServedBank<D, S: CheckpointStore, W, K: Keeper = NoKeeper> {
 /// listener and the writer.
 ///
 /// It prints the address, and then a line for each session, as soon as node 0 has executed all that
-/// was asked and it was sent to the followers. At the end, once the followers agree with node 0, it
-/// prints the rows and their total. A client at fault ends its own session only, and the next is
-/// served.
+/// was asked and it was sent to the followers. Node 0 is compared with them after each
+/// [`COMPARED_ENTRIES`](bank_server::COMPARED_ENTRIES) entries or more, before the next client. At the
+/// end, once the followers agree with node 0, it prints the rows and their total. A client at fault
+/// ends its own session only, and the next is served.
 ///
 /// Fails with
 /// - [`ServeFault::Run`] if a follower can't be started or differs from node 0, the crew is gone,

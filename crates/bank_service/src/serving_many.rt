@@ -24,8 +24,9 @@ use std::time::Clock;
 /// server.
 ///
 /// First the log is executed. Then the address is printed, and a line for each session, as soon as it
-/// is over, node 0 has executed all that was asked, and it was sent to the followers. At the end, once
-/// the followers agree with node 0, the rows and their total are printed. If the log is kept in a
+/// is over, node 0 has executed all that was asked, and it was sent to the followers. Node 0 is compared
+/// with them after each [`COMPARED_ENTRIES`](bank_server::COMPARED_ENTRIES) entries or more. At the end,
+/// once the followers agree with node 0, the rows and their total are printed. If the log is kept in a
 /// file, its line is printed before the address, and once more before the rows.
 ///
 /// The log is in the order in which what clients sent was taken. Each client gets the outcomes of its
@@ -60,6 +61,35 @@ where
         server.plan.nodes,
         0,
     )?;
+    serve_many_beside(rt, followers, server)
+}
+
+/// Serves clients as [`serve_many`] does, and fails as it does, beside these followers. The plan's number
+/// of nodes isn't read. A follower that began otherwise than the bank strays.
+pub fn serve_many_beside<H, A, S, W, K>(
+    rt: &H,
+    followers: ReadyFollowers,
+    server: ManyServer<A, S, W, K>,
+) -> Result<ManyServer<A, S, W, K>, ServeFault>
+where
+    H: Threads + Wait + Clock + Sync,
+    A: Connections + Drop,
+    S: CheckpointStore,
+    W: Write + Drop,
+    K: Keeper,
+    requires nodes { followers.nodes ≤ REPLICAS }
+    requires workers { server.plan.workers ≤ WORKERS }
+    requires opened { HasNoEntries server.primary.node.board }
+    requires fresh { All (λ client. client ≡ fresh_client) server.sessions.clients.all }
+    ensures served { IfOk result (λ bank. ServesAtOnce S.model K.Keeps K.opening server.plan server.port
+        (outside_of A.coming A.sent server.sessions.connections) (outside_of A.coming A.sent bank.sessions.connections)
+        server.sessions.clients.all bank.sessions.clients.all server.primary bank.primary
+        (W.contents server.writer) (W.contents bank.writer)) }
+    ensures fault { IfErr result (IsServingFault followers.nodes (0 < server.plan.workers) server.plan.saves
+        K.fails) }
+{
+    // Its log has one number for each key.
+    let _node = server.primary.node();
     let (alloc, workers) = (server.alloc, server.plan.workers);
     with_team(rt, alloc, followers, workers, &OpenGate, server)?
 }

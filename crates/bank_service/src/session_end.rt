@@ -55,8 +55,10 @@ fn keep_log<S: CheckpointStore, K: Keeper>(primary: &mut Primary<S, K>) -> Resul
     }
 }
 
-// Has node 0 execute the whole log.
-fn settle_log<S: CheckpointStore, K: Keeper, C: Crew>(
+/// Has node 0 execute the whole log.
+///
+/// Fails with [`ServeFault::Run`] if the crew is gone, or memory is refused.
+pub(crate) fn settle_log<S: CheckpointStore, K: Keeper, C: Crew>(
     primary: &mut Primary<S, K>,
     crew: &mut C,
 ) -> Result<(), ServeFault>
@@ -64,6 +66,7 @@ fn settle_log<S: CheckpointStore, K: Keeper, C: Crew>(
     ensures log { primary.new.log ≡ primary.old.log }
     ensures one_each { IsLog primary.new.log }
     ensures whole_log { OnOk result (HasWholeLog primary.new) }
+    ensures none_out { C.keeps ≡ false → HasNoneOut primary.old.node.board → HasNoneOut primary.new.node.board }
     ensures fault { IfErr result (IsFinishFault (C.keeps ≡ false → ¬ HasNoneOut primary.old.node.board)
         false K.fails) }
 {

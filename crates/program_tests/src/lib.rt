@@ -7,6 +7,8 @@ mod answers;
 #[cfg(test)]
 mod clients;
 #[cfg(test)]
+mod comparisons;
+#[cfg(test)]
 mod devices;
 #[cfg(test)]
 mod hostile;

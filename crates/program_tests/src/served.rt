@@ -256,8 +256,8 @@ fn a_store_that_fails(rt: HostRuntime) {
     );
 }
 
-// A bank with this opening.
-fn bank_of(rt: &impl Abort, alloc: Global, opening: &[u8]) -> Box<Primary<MemoryStore>>
+/// A bank with this opening.
+pub(crate) fn bank_of(rt: &impl Abort, alloc: Global, opening: &[u8]) -> Box<Primary<MemoryStore>>
     ensures log { result.value.log ≡ [] }
     ensures opened { HasNoEntries result.value.node.board }
 {

@@ -62,7 +62,7 @@ fn compared<R: Abort + Threads + Wait + Sync>(
         SentLog::First => {}
         SentLog::All | SentLog::Other => feed(rt, followers, &primary),
     }
-    followers.compare(rt, primary.node())
+    followers.compare(primary.node())
 }
 
 // Checks how these followers compare after they were sent this.
@@ -135,8 +135,13 @@ fn opened_otherwise(rt: HostRuntime) {
     expect_strayed(&rt, rt.alloc(), OTHER_OPENING, SentLog::All, &bob);
 }
 
-// Adds a follower that begins with this opening.
-fn add_follower(rt: &impl Abort, alloc: Global, ready: &mut ReadyFollowers, opening: &[u8])
+/// Adds a follower that begins with this opening.
+pub(crate) fn add_follower(
+    rt: &impl Abort,
+    alloc: Global,
+    ready: &mut ReadyFollowers,
+    opening: &[u8],
+)
     requires some { 1 ≤ ready.old.nodes }
     requires limit { ready.old.nodes < REPLICAS }
     ensures { ready.new.nodes ≡ ready.old.nodes + 1 }

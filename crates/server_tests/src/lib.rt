@@ -9,6 +9,8 @@ mod bank;
 #[cfg(test)]
 mod clients;
 #[cfg(test)]
+mod comparisons;
+#[cfg(test)]
 mod connections;
 #[cfg(test)]
 mod devices;

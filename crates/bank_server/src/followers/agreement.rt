@@ -1,7 +1,7 @@
 //! Comparing two replicas.
 ghost use Rattle.std.specs.Prelude.{◌≡◌, ◌↔◌, None, length, IsTrue, IsOk, IfOk, IfSome};
 ghost use Rattle.cown_board.specs.Board.{unfinished_of};
-ghost use Rattle.bank_server.specs.Agreement.{Agrees, DiffersSo, HasSameReplies, IsFirstPlace, IsFirstReply};
+ghost use Rattle.bank_server.specs.Agreement.{Agrees, AgreesSince, DiffersSo, HasSameRepliesSince, IsFirstPlace, IsFirstReply};
 
 use super::stray_reason::StrayReason;
 use cown_board::Runs;
@@ -21,16 +21,18 @@ pub fn agree<S: CheckpointStore, T: CheckpointStore>(
     ensures answered { IsOk result }
     ensures value { IfOk result (λ same. IsTrue same ↔ Agrees first.now.board second.now.board) }
 {
-    Ok(difference(first, second).is_none())
+    Ok(difference(first, second, 0).is_none())
 }
 
-/// How the second replica differs from the first, if they don't agree. It takes no memory.
+/// How the second replica differs from the first, if they don't agree since this number: replies up
+/// to it aren't compared. It takes no memory.
 pub fn difference<S: CheckpointStore, T: CheckpointStore>(
     first: &Replica<S>,
     second: &Replica<T>,
+    from: u64,
 ) -> Option<StrayReason>
-    ensures none { (result ≡ None) ↔ Agrees first.now.board second.now.board }
-    ensures reason { IfSome result (DiffersSo first.now.names first.now.board second.now.board) }
+    ensures none { (result ≡ None) ↔ AgreesSince from first.now.board second.now.board }
+    ensures reason { IfSome result (DiffersSo from first.now.names first.now.board second.now.board) }
 {
     let Some(one) = first.final_columns() else {
         return Some(StrayReason::Unfinished);
@@ -38,7 +40,7 @@ pub fn difference<S: CheckpointStore, T: CheckpointStore>(
     let Some(other) = second.final_columns() else {
         return Some(StrayReason::Unfinished);
     };
-    if let Some(number) = first_reply(first, second) {
+    if let Some(number) = first_reply(first, second, from) {
         return Some(StrayReason::Entry(number));
     }
     if one.customers() != other.customers() {
@@ -51,19 +53,24 @@ pub fn difference<S: CheckpointStore, T: CheckpointStore>(
     }
 }
 
-// The first number to which two idle replicas have other replies, or to which only one has a reply.
+// The first number above this one to which two idle replicas have other replies, or to which only one
+// has a reply. If one of them ends before this number, and the other doesn't, it is the first number
+// behind that end.
 fn first_reply<S: CheckpointStore, T: CheckpointStore>(
     first: &Replica<S>,
     second: &Replica<T>,
+    from: u64,
 ) -> Option<u64>
     requires idle { (unfinished_of first.now.board ≡ 0) × (unfinished_of second.now.board ≡ 0) }
-    ensures none { (result ≡ None) ↔ HasSameReplies first.now.board second.now.board }
-    ensures first { IfSome result (IsFirstReply first.now.board second.now.board) }
+    ensures none { (result ≡ None) ↔ HasSameRepliesSince from first.now.board second.now.board }
+    ensures first { IfSome result (IsFirstReply from first.now.board second.now.board) }
 {
     // Each entry is finished.
     prove!(first.idle());
     prove!(second.idle());
-    for index in 0..first.length().max(second.length()) {
+    let one = first.length();
+    let other = second.length();
+    for index in from.min(one).min(other)..one.max(other) {
         if !is_same_reply(first.reply(index + 1), second.reply(index + 1)) {
             return Some(index + 1);
         }

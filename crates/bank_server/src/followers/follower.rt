@@ -1,14 +1,13 @@
 //! A replica in a thread of its own, fed with the frames of the log.
-ghost use Rattle.std.specs.Prelude.{◌≡◌, ◌↔◌, None, OnOk};
-ghost use Rattle.bank_server.specs.Agreement.{Agrees};
+ghost use Rattle.std.specs.Prelude.{OnOk};
 ghost use Rattle.bank_server.specs.FollowerTurns.{HandlesMessage, HandlesRest, RunsAll};
 
-use super::agreement::difference;
-use super::channels::Message;
+use super::lent_replica::LentReplica;
+use super::message::Message;
 use super::stray_reason::StrayReason;
 use cown_workers::{CrewGone, InlineCrew, drain};
-use crossbeam_channel::Receiver;
-use sb_checkpoint::{CheckpointStore, MemoryStore};
+use crossbeam_channel::{Receiver, Sender};
+use sb_checkpoint::MemoryStore;
 use sb_frames::{Frame, Stream};
 use sb_replica::{Pause, ReceiveFault, Replica};
 use std::sync::Wait;
@@ -19,44 +18,65 @@ pub(crate) struct Follower {
     pub(crate) replica: Box<Replica<MemoryStore>>,
     pub(crate) stream: Stream,
     pub(crate) inbox: Receiver<Message>,
-}
-
-/// What a follower's thread gives back.
-#[derive(Drop)]
-pub(crate) struct FollowerEnd {
-    replica: Box<Replica<MemoryStore>>,
-    // Why it stopped early, if it did.
-    stop: Option<StrayReason>,
-}
-
-impl FollowerEnd {
-    /// Why it strayed from this node 0, if it did: why it stopped early, or else how it differs.
-    pub(crate) fn reason<S: CheckpointStore>(&self, node: &Replica<S>) -> Option<StrayReason>
-        ensures { (result ≡ None) ↔ Agrees node.now.board self.now.replica.value.board }
-    {
-        let difference = difference(node, &self.replica)?;
-        Some(self.stop.unwrap_or(difference))
-    }
+    pub(crate) outbox: Sender<LentReplica>,
 }
 
 impl Follower {
-    /// Handles the frames that come, and gives the replica back once no more come. It stops early,
-    /// with what it has by then, if memory is refused or bytes aren't a frame.
-    pub(crate) fn follow<R: Wait>(mut self, rt: &R) -> FollowerEnd {
-        let mut stop = None;
+    /// Handles the frames that come, and lends its replica whenever node 0 wants it, until no more
+    /// comes. It stops early, and lends what it has by then, if memory is refused or bytes aren't a
+    /// frame: it handles no frame after that.
+    pub(crate) fn follow<R: Wait>(self, rt: &R) {
+        let Follower {
+            replica,
+            stream,
+            inbox,
+            outbox,
+        } = self;
+        let mut stream = stream;
+        let mut own = LentReplica {
+            replica,
+            stop: None,
+        };
         for _ in rt.forever() {
-            let Ok(message) = self.inbox.recv(rt) else {
-                break;
+            let Ok(message) = inbox.recv(rt) else {
+                return;
             };
-            stop = handle_message(rt, &mut self.replica, &mut self.stream, &message).err();
-            if stop.is_some() {
-                break;
+            match message {
+                Message::Frames(bytes) => handle(rt, &mut own, &mut stream, &bytes),
+                Message::Lend => {
+                    let Some(back) = lend(rt, own, &inbox, &outbox) else {
+                        return;
+                    };
+                    own = back;
+                }
+                // Nothing is lent.
+                Message::Back(_) => return,
             }
         }
-        FollowerEnd {
-            replica: self.replica,
-            stop,
-        }
+    }
+}
+
+// Lends what a follower has, and answers it once it is back. `None` if node 0 sends nothing more.
+fn lend<R: Wait>(
+    rt: &R,
+    own: LentReplica,
+    inbox: &Receiver<Message>,
+    outbox: &Sender<LentReplica>,
+) -> Option<LentReplica> {
+    if outbox.send(rt, own).is_err() {
+        return None;
+    }
+    match inbox.recv(rt) {
+        Ok(Message::Back(own)) => Some(own),
+        // Nothing else is sent before.
+        _ => None,
+    }
+}
+
+// Handles the frames of a message, unless the follower stopped before.
+fn handle<R: Wait>(rt: &R, own: &mut LentReplica, stream: &mut Stream, bytes: &[u8]) {
+    if own.stop.is_none() {
+        own.stop = handle_message(rt, &mut own.replica, stream, bytes).err();
     }
 }
 

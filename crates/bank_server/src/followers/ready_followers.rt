@@ -6,11 +6,10 @@ ghost use Rattle.sb_checkpoint.specs.declared.memory_store.MemoryStore as stores
 ghost use Rattle.sb_replica.specs.Replica.{ReplicaOf};
 ghost use Rattle.bank_server.specs.Followers.{IsAtOpening};
 
-use super::channels::{MESSAGES, Message};
 use super::follower::Follower;
+use super::follower_link::{FollowerLink, open_link};
 use crate::node0::open_boxed;
 use cown_board::Runs;
-use crossbeam_channel::{Sender, bounded};
 use sb_calls::REPLICAS;
 use sb_checkpoint::{CheckpointStore, MemoryStore};
 use sb_frames::Stream;
@@ -24,7 +23,7 @@ use std::marker::Model;
 #[derive(Drop)]
 pub struct ReadyFollowers {
     pub(crate) nodes: usize,
-    pub(crate) senders: Vec<Sender<Message>>,
+    pub(crate) links: Vec<FollowerLink>,
     pub(crate) followers: Vec<Follower>,
 }
 
@@ -39,8 +38,8 @@ impl Model for ReadyFollowers {
       replicas = map (λ follower. follower.replica.value) ready.followers.items;
     } };
 
-    // One for each node but node 0, and a channel to each.
-    ghost invariant = { λ ready. (length ready.senders.items ≡ ready.nodes - 1)
+    // One for each node but node 0, and channels to each.
+    ghost invariant = { λ ready. (length ready.links.items ≡ ready.nodes - 1)
         × (length ready.followers.items ≡ ready.nodes - 1) };
 }
 
@@ -51,7 +50,7 @@ impl ReadyFollowers {
     {
         ReadyFollowers {
             nodes: 1,
-            senders: Vec::new(alloc),
+            links: Vec::new(alloc),
             followers: Vec::new(alloc),
         }
     }
@@ -107,14 +106,15 @@ impl ReadyFollowers {
         // Nothing is unfinished.
         let columns = node.final_columns().unwrap();
         let replica = open_copy(alloc, self.nodes as u8, node.directory(), columns, entries)?;
-        let (end, inbox) = bounded(alloc, MESSAGES)?;
-        self.senders.reserve(1)?;
+        let (link, inbox, outbox) = open_link(alloc)?;
+        self.links.reserve(1)?;
         self.followers.reserve(1)?;
-        self.senders.push_reserved(end);
+        self.links.push_reserved(link);
         self.followers.push_reserved(Follower {
             replica,
             stream: Stream::new(alloc),
             inbox,
+            outbox,
         });
         self.nodes += 1;
         Ok(())

@@ -36,7 +36,7 @@ impl<S: CheckpointStore> Duty for WholeLog<S> {
 
     fn carry_out<R, C>(
         self,
-        rt: &R,
+        _rt: &R,
         followers: &mut Followers<'_, R>,
         crew: &mut C,
     ) -> Result<Box<Replica<S>>, RunFault>
@@ -45,7 +45,7 @@ impl<S: CheckpointStore> Duty for WholeLog<S> {
         C: Crew + WorkerCount,
     {
         let node = self.primary.execute_with_followers(crew, followers)?;
-        followers.compare(rt, &node)?;
+        followers.compare(&node)?;
         Ok(node)
     }
 }

@@ -1,4 +1,4 @@
-use Rattle.std.proofs.Common.{◌≡◌, ◌∙◌, ap, false, refl, subst}
+use Rattle.std.proofs.Common.{◌≡◌, ◌∙◌, ℕ, ap, false, refl, subst}
 use Rattle.cown_workers.specs.Draining.{HasNoneOut}
 use Rattle.std.proofs.lemmas.Result.{err_from_is_err_and, on_ok_weaker}
 use Rattle.bank_server.proofs.boards.Boards.{idle_none_out}
@@ -7,11 +7,11 @@ use Rattle.bank_server.specs.Clients.{ClientsOf}
 use Rattle.bank_server.specs.Primary.{opening_rows_of}
 use Rattle.bank_clients.specs.History.{GoesOn}
 use Rattle.bank_clients.specs.Sessions.{SessionsOf, outside_of}
-use Rattle.bank_service.specs.ServeFaults.{IsFinishFault}
+use Rattle.bank_service.specs.ServeFaults.{IsServingFault}
 use Rattle.bank_service.specs.ServeOutput.{ServerContinues}
 use Rattle.bank_service.specs.ServedBank.{IsBankAfter}
 use Rattle.program_words.specs.declared.plan.Plan.{Plan}
-use Rattle.bank_service.proofs.GoneCrews.{finish_fault_if}
+use Rattle.bank_service.proofs.GoneCrews.{finish_fault_beside, serving_fault_if}
 use Rattle.bank_service.proofs.ServingAtOnce.{if_both, over_behind, over_continues, rounds_at_first, rounds_then, still_begun}
 use Rattle.bank_service.proofs.many_server.ManyServer.serve_next.Goals as goal
 
@@ -74,9 +74,12 @@ returns-in-Some-next_over-clause-none_out g c =
 pub returns-in-Some-next_over-clause-fault : goal.returns-in-Some-next_over-clause-fault
 returns-in-Some-next_over-clause-fault g c =
     let kept = c.loop.invariant in
+    let nodes = c.args.followers.now.nodes in
+    let saves = c.loop.self.plan.saves in
     if_err c.end_session.result (λ fault is. subst (λ (plan : Plan).
-    IsFinishFault (g.C.Crew.keeps ≡ false → ¬ HasNoneOut c.args.self.now.primary.node.board) plan.saves g.K.Keeper.fails fault) kept.plan
-    (finish_fault_if c.loop.self.plan.saves g.K.Keeper.fails fault (λ gone e none. gone e (kept.none_out e none)) is)) c.end_session.ensures.fault
+    IsServingFault nodes (g.C.Crew.keeps ≡ false → ¬ HasNoneOut c.args.self.now.primary.node.board) plan.saves g.K.Keeper.fails fault) kept.plan
+    (serving_fault_if nodes saves g.K.Keeper.fails fault (λ gone e none. gone e (kept.none_out e none))
+    (finish_fault_beside nodes saves g.K.Keeper.fails fault is))) c.end_session.ensures.fault
 
 pub loop-preserved : goal.loop-preserved
 loop-preserved g c =
@@ -107,6 +110,8 @@ returns-in_err-serve_round-clause-fault g c =
     let p = err_from_is_err_and c.from_residual.result c.from_residual.ensures.1 in
     let kept = c.loop.invariant in
     let fault = c.in_err-serve_round.field-0.0 in
-    rw (p.1, p.2) (subst (λ (plan : Plan). IsFinishFault (g.C.Crew.keeps ≡ false → ¬ HasNoneOut c.args.self.now.primary.node.board) plan.saves
-    g.K.Keeper.fails fault) kept.plan (finish_fault_if c.loop.self.plan.saves g.K.Keeper.fails fault (λ gone e none. gone e (kept.none_out e none))
-    c.in_err-serve_round.ensures.fault))
+    let MayBeGone : Type 0 = g.C.Crew.keeps ≡ false → ¬ HasNoneOut c.args.self.now.primary.node.board in
+    rw (p.1, p.2) (subst (λ (plan : Plan). IsServingFault c.args.followers.now.nodes MayBeGone plan.saves g.K.Keeper.fails fault) kept.plan
+    (subst (λ (nodes : ℕ). IsServingFault nodes MayBeGone c.loop.self.plan.saves g.K.Keeper.fails fault) kept.nodes
+    (serving_fault_if c.loop.followers.nodes c.loop.self.plan.saves g.K.Keeper.fails fault (λ gone e none. gone e (kept.none_out e none))
+    c.in_err-serve_round.ensures.fault)))

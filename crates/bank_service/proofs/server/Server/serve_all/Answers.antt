@@ -1,14 +1,15 @@
-use Rattle.std.proofs.Common.{◌≡◌, ◌+◌, true, refl, subst, ◌∙◌, arith}
+use Rattle.std.proofs.Common.{◌≡◌, ◌+◌, true, refl, ap, subst, ◌∙◌, arith}
 use Rattle.std.proofs.lemmas.Result.{err_from_is_err_and}
 use Rattle.sb_rows.specs.Rows.{Rows}
 use Rattle.bank_server.specs.Primary.{opening_rows_of}
 use Rattle.bank_server.proofs.boards.Boards.{idle_none_out}
-use Rattle.bank_service.specs.ServeFaults.{IsFinishFault}
+use Rattle.bank_server.specs.Followers.{FollowersOf}
+use Rattle.bank_service.specs.ServeFaults.{IsServingFault}
 use Rattle.bank_service.specs.ServedBank.{IsBankAfter}
 use Rattle.bank_service.specs.inner.ServeSteps.{ServesNext}
 use Rattle.program_words.specs.declared.plan.Plan.{Plan}
 use Rattle.bank_service.proofs.BankAfter.{left_after_next, left_at_first}
-use Rattle.bank_service.proofs.GoneCrews.{finish_fault_if, keeps_if}
+use Rattle.bank_service.proofs.GoneCrews.{finish_fault_beside, finish_fault_if, keeps_if}
 use Rattle.bank_service.proofs.PrintedLines.{next_session, no_sessions, same_rows}
 use Rattle.bank_service.proofs.server.Server.serve_all.Goals as goal
 
@@ -47,15 +48,17 @@ loop-before-preserved g c =
           IsBankAfter g.S.CheckpointStore.model g.K.Keeper.Keeps g.K.Keeper.opening plan.saves 1 c.loop-before.self.primary c.serve_next.new.self.primary)
           kept.plan next.bank_after);
       plan = c.serve_next.ensures.plan ∙ kept.plan;
-      nodes = c.serve_next.ensures.nodes ∙ kept.nodes;
+      nodes = c.serve_next.ensures.nodes ∙ ap (λ (f : FollowersOf). f.nodes) c.compare_if_due.ensures.unchanged ∙ kept.nodes;
     }
 
 pub returns-in_err-serve_next-clause-fault : goal.returns-in_err-serve_next-clause-fault
 returns-in_err-serve_next-clause-fault g c =
-    let p = err_from_is_err_and c.from_residual.result c.from_residual.ensures.1 in
+    let p = err_from_is_err_and c.from_residual-in_err-serve_next.result c.from_residual-in_err-serve_next.ensures.1 in
     let kept = c.loop-before.invariant in
+    let nodes = c.args.followers.now.nodes in
     let board = c.loop-before.self.primary.node.board in
     let fault = c.in_err-serve_next.field-0.0 in
-    rw (p.1, p.2) (subst (λ (plan : Plan). IsFinishFault (g.C.Crew.keeps ≡ true) plan.saves g.K.Keeper.fails fault) kept.plan
+    rw (p.1, p.2) (subst (λ (plan : Plan). IsServingFault nodes (g.C.Crew.keeps ≡ true) plan.saves g.K.Keeper.fails fault) kept.plan
+    (finish_fault_beside nodes c.loop-before.self.plan.saves g.K.Keeper.fails fault
     (finish_fault_if c.loop-before.self.plan.saves g.K.Keeper.fails fault (keeps_if g.C.Crew.keeps board (idle_none_out board kept.left.all.idle))
-    c.in_err-serve_next.ensures.fault))
+    c.in_err-serve_next.ensures.fault)))

@@ -5,10 +5,10 @@ use Rattle.bank_server.proofs.followers.started_followers.fn.with_followers.scop
 
 -- followers, with this many that listen
 abbrev listening : ℕ → ℕ → FollowersOf
-listening nodes n = record { nodes = nodes; listening = n; sent = 0 }
+listening nodes n = record { nodes = nodes; listening = n; sent = 0; compared = 0 }
 
 pub returns : goal.returns
 returns g c = record {
-  answer = (_, record { shown = _; shows = ap (listening c.captures.nodes) c.requires.senders; left = _; met = c.f.ensures; leaves = refl });
+  answer = (_, record { shown = _; shows = ap (listening c.captures.nodes) c.requires.links; left = _; met = c.f.ensures; leaves = refl });
   fault = tt;
 }

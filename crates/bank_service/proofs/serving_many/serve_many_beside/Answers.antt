@@ -3,7 +3,7 @@ use Rattle.bank_server.specs.Primary.{opening_rows_of}
 use Rattle.bank_clients.specs.History.{first_history}
 use Rattle.bank_clients.proofs.Histories.{begins_ready, begins_served}
 use Rattle.bank_service.proofs.ServingAtOnce.{no_entries_none_out}
-use Rattle.bank_service.proofs.serving_many.serve_many.Goals as goal
+use Rattle.bank_service.proofs.serving_many.serve_many_beside.Goals as goal
 
 pub with_team-requires-clause-ready : goal.with_team-requires-clause-ready
 with_team-requires-clause-ready g c κs within =
@@ -12,5 +12,5 @@ with_team-requires-clause-ready g c κs within =
     let log = server.primary.log in (
       no_entries_none_out server.primary.node.board c.requires.opened,
       begins_ready (length log) clients c.requires.fresh,
-      (first_history log, begins_served (opening_rows_of server.primary) log clients c.node.ensures.valid.log c.requires.fresh),
+      (first_history log, begins_served (opening_rows_of server.primary) log clients c.node-_node.ensures.valid.log c.requires.fresh),
     )

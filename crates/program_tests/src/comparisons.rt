@@ -1,0 +1,231 @@
+//! Servers that compare node 0 with its followers while they go on.
+ghost use Rattle.std.specs.Prelude.{◌≡◌, ◌≤◌, ◌<◌, ◌+◌, length, None};
+ghost use Rattle.sb_calls.specs.declared.nodes.TheConstants.{REPLICAS};
+
+use crate::clients::{TestListener, Transcript};
+use crate::served::{HERE, bank_of, plain};
+use bank_clients::{Connections, Sessions};
+use bank_server::{Arrival, Arrivals, AskCounts, ReadyFollowers, RunFault, StrayReason};
+use bank_service::{ManyServer, ServeFault, Server, serve_beside, serve_many_beside};
+use program_words::Plan;
+use std::alloc::Global;
+use std::cell::Cell;
+use std::io;
+use std::process::Abort;
+use std::sync::Wait;
+use std::thread::Threads;
+use std::time::Clock;
+
+const OPENING: &[u8] = b"alice 100.00 50.00\ndave 1.00 1.00\nbegin\n";
+
+// Another name for the same balances: what differs is the reply to a call that names dave.
+const OTHER_NAME: &[u8] = b"alice 100.00 50.00\ndora 1.00 1.00\nbegin\n";
+
+// Four nodes, which serve one session.
+const PLAN: Plan = Plan {
+    host: HERE,
+    sessions: 1,
+    clients: None,
+    nodes: 4,
+    workers: 0,
+    saves: false,
+    patience: None,
+    is_quiet: true,
+};
+
+// Adds a follower that begins with this opening.
+fn add_follower(rt: &impl Abort, alloc: Global, ready: &mut ReadyFollowers, opening: &[u8])
+    requires some { 1 ≤ ready.old.nodes }
+    requires limit { ready.old.nodes < REPLICAS }
+    ensures { ready.new.nodes ≡ ready.old.nodes + 1 }
+{
+    let bank = bank_of(rt, alloc, opening);
+    ready.add(alloc, bank.node(), 0).expect(rt, "a follower");
+}
+
+// Three followers, of which the second begins with this opening.
+fn three(rt: &impl Abort, alloc: Global, second: &[u8]) -> ReadyFollowers
+    ensures { result.nodes ≡ 4 }
+{
+    let mut ready = ReadyFollowers::new(alloc);
+    add_follower(rt, alloc, &mut ready, OPENING);
+    add_follower(rt, alloc, &mut ready, second);
+    add_follower(rt, alloc, &mut ready, OPENING);
+    ready
+}
+
+// Appends what client 7 asks by its request of this number: a deposit of 1.00 for dave, or alice's balance.
+fn push_ask(rt: &impl Abort, request: u32, is_deposit: bool, out: &mut Vec<u8>) {
+    let (head, rest): (&[u8], &[u8]) = if is_deposit {
+        (b"\x00\x17\x01\0\0\0\x07", b"\x02\x04dave\0\0\0\0\0\0\0\x64")
+    } else {
+        (b"\x00\x10\x01\0\0\0\x07", b"\x01\x05alice")
+    };
+    let number = request.to_be_bytes();
+    for piece in [head, number.as_slice(), rest] {
+        out.extend_from_slice(piece).expect(rt, "memory for bytes");
+    }
+}
+
+// The asks with the numbers from `first` to `last`, of which this one is the deposit. Behind each whole
+// multiple of `each`, and at the end, stands a flush.
+fn asks(rt: &impl Abort, alloc: Global, first: u32, last: u32, deposit: u32, each: u32) -> Vec<u8>
+    requires { 0 < each }
+{
+    let mut out = Vec::new(alloc);
+    for request in first..last {
+        push_ask(rt, request, request == deposit, &mut out);
+        if request % each == 0 {
+            out.extend_from_slice(FLUSH).expect(rt, "memory for bytes");
+        }
+    }
+    push_ask(rt, last, last == deposit, &mut out);
+    out.extend_from_slice(FLUSH).expect(rt, "memory for bytes");
+    out
+}
+
+const FLUSH: &[u8] = b"\x00\x01\x06";
+
+// How a server of three clients, one after another, ends, and what it printed. The first two have 65,536
+// asks each, of which the second one's first is the deposit.
+fn serve_three(
+    rt: &(impl Abort + Threads + Wait + Clock + Sync),
+    alloc: Global,
+    second: &[u8],
+) -> (Result<(), ServeFault>, Vec<u8>) {
+    let told = Transcript::new(alloc);
+    let before = asks(rt, alloc, 1, 65_536, 65_537, 65_536);
+    let behind = asks(rt, alloc, 65_537, 131_072, 65_537, 65_536);
+    let clients = [plain(&before), plain(&behind), plain(b"")];
+    let mut printed = Vec::new(alloc);
+    let server = Server {
+        alloc,
+        plan: Plan {
+            sessions: 3,
+            ..PLAN
+        },
+        listener: TestListener::of(alloc, &clients, &told).expect(rt, "a listener"),
+        primary: Box::into_inner(bank_of(rt, alloc, OPENING)),
+        writer: &mut printed,
+    };
+    let ended = serve_beside(rt, three(rt, alloc, second), server).map(|_| ());
+    (ended, printed)
+}
+
+#[test]
+fn a_server_compares_as_it_goes_on(rt: HostRuntime) {
+    let (ended, printed) = serve_three(&rt, rt.alloc(), OPENING);
+    assert!(&rt; ended == Ok(()));
+    let wanted = b"listening 127.0.0.1:4000\nsession 1 ok\nsession 2 ok\nsession 3 ok\n\
+        alice 100.00 50.00\ndave 1.00 2.00\ntotal 153.00\n";
+    assert!(&rt; printed.as_slice() == wanted.as_slice());
+}
+
+// The second comparison is before the third client.
+#[test]
+fn a_server_ends_once_a_follower_strayed(rt: HostRuntime) {
+    let (ended, printed) = serve_three(&rt, rt.alloc(), OTHER_NAME);
+    let strayed = RunFault::Strayed(2, StrayReason::Entry(65_537));
+    assert!(&rt; ended == Err(ServeFault::Run(strayed)));
+    let wanted = b"listening 127.0.0.1:4000\nsession 1 ok\nsession 2 ok\n";
+    assert!(&rt; printed.as_slice() == wanted.as_slice());
+}
+
+// The connection of one client, from whom as many bytes arrive in each round as are taken at once.
+#[derive(Drop)]
+struct Wire<'a> {
+    coming: &'a [u8],
+    is_taken: bool,
+    rounds: &'a Cell<usize>,
+}
+
+impl Arrivals for Wire<'_> {
+    ghost coming = { λ wire. None };
+
+    ghost sent = { λ wire. None };
+
+    fn next(&mut self, chunk: &mut [u8]) -> Option<Arrival> {
+        if self.is_taken {
+            return None;
+        }
+        self.is_taken = true;
+        let count = self.coming.len().min(chunk.len());
+        let (piece, rest) = self.coming.split_at(count);
+        chunk[..count].copy_from_slice(piece);
+        self.coming = rest;
+        Some(Arrival {
+            client: 0,
+            read: Some(count),
+        })
+    }
+}
+
+impl Connections for Wire<'_> {
+    fn wait(&mut self) -> io::Result<()> {
+        self.is_taken = false;
+        self.rounds.set(self.rounds.get().wrapping_add(1));
+        Ok(())
+    }
+
+    fn admit(&mut self) -> Option<usize> {
+        None
+    }
+
+    fn writable(&self) -> &[usize] {
+        &[]
+    }
+
+    fn send(&mut self, _place: usize, bytes: &[u8]) -> usize {
+        bytes.len()
+    }
+
+    fn has_failed(&self, _place: usize) -> bool {
+        false
+    }
+
+    fn leave(&mut self, _place: usize, _is_at_fault: bool, _counts: AskCounts) {}
+}
+
+// How a server of many clients ends, and after how many rounds. Its only client has 150,000 asks, of which
+// the 70,001st is the deposit, and a flush behind each 10,000.
+fn serve_rounds(
+    rt: &(impl Abort + Threads + Wait + Clock + Sync),
+    alloc: Global,
+    second: &[u8],
+) -> (Result<(), ServeFault>, usize) {
+    let rounds = Cell::new(0);
+    let coming = asks(rt, alloc, 1, 150_000, 70_001, 10_000);
+    let wire = Wire {
+        coming: &coming,
+        is_taken: false,
+        rounds: &rounds,
+    };
+    let server = ManyServer {
+        alloc,
+        plan: PLAN,
+        port: 4000,
+        sessions: Sessions::open(alloc, wire, 1).expect(rt, "sessions"),
+        primary: Box::into_inner(bank_of(rt, alloc, OPENING)),
+        writer: Vec::new(alloc),
+    };
+    let ended = serve_many_beside(rt, three(rt, alloc, second), server).map(|_| ());
+    (ended, rounds.get())
+}
+
+// In a round 65,536 bytes arrive, which are 3,640 asks or one more. The 19th has the 65,536th ask, and no
+// flush: node 0 executes first what nobody waits for. The client ends in the 43rd round.
+#[test]
+fn a_server_of_many_compares_as_it_goes_on(rt: HostRuntime) {
+    let (ended, rounds) = serve_rounds(&rt, rt.alloc(), OPENING);
+    assert!(&rt; ended == Ok(()));
+    assert!(&rt; rounds == 43);
+}
+
+// The second comparison is behind the 38th round: there were 69,175 asks at the first.
+#[test]
+fn a_server_of_many_ends_once_a_follower_strayed(rt: HostRuntime) {
+    let (ended, rounds) = serve_rounds(&rt, rt.alloc(), OTHER_NAME);
+    let strayed = RunFault::Strayed(2, StrayReason::Entry(70_001));
+    assert!(&rt; ended == Err(ServeFault::Run(strayed)));
+    assert!(&rt; rounds == 38);
+}
