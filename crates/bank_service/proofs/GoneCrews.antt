@@ -28,24 +28,35 @@ finish_fault_if saves fails (Log fault) f is = is
 finish_fault_if saves fails AnotherOpening f is = is
 
 -- a server may end with whatever may end the finish of a session
-run_fault_beside : {A : Type 0} (nodes : ℕ) (fault : RunFault) → IsFinishRunFault A fault → IsServingRunFault nodes A fault
-run_fault_beside nodes (Input line fault) is = is
-run_fault_beside nodes (Strayed node reason) is = absurd is
-run_fault_beside nodes CrewGone is = is
-run_fault_beside nodes Device is = is
-run_fault_beside nodes OutOfMemory is = is
+run_fault_beside : (A : Type 0) (nodes : ℕ) (fault : RunFault) → IsFinishRunFault A fault → IsServingRunFault nodes A fault
+run_fault_beside A nodes (Input line fault) is = is
+run_fault_beside A nodes (Strayed node reason) is = absurd is
+run_fault_beside A nodes CrewGone is = is
+run_fault_beside A nodes Device is = is
+run_fault_beside A nodes OutOfMemory is = is
 
-pub finish_fault_beside : {A : Type 0} (nodes : ℕ) (saves fails : Bool) (fault : ServeFault) → IsFinishFault A saves fails fault
+pub finish_fault_beside : (A : Type 0) (nodes : ℕ) (saves fails : Bool) (fault : ServeFault) → IsFinishFault A saves fails fault
     → IsServingFault nodes A saves fails fault
-finish_fault_beside nodes saves fails (Run fault) is = run_fault_beside nodes fault is
-finish_fault_beside nodes saves fails ReadBack is = is
-finish_fault_beside nodes saves fails Store is = is
-finish_fault_beside nodes saves fails StoreInUse is = is
-finish_fault_beside nodes saves fails (PortTaken port) is = is
-finish_fault_beside nodes saves fails (Log fault) is = is
-finish_fault_beside nodes saves fails AnotherOpening is = is
+finish_fault_beside A nodes saves fails (Run fault) is = run_fault_beside A nodes fault is
+finish_fault_beside A nodes saves fails ReadBack is = is
+finish_fault_beside A nodes saves fails Store is = is
+finish_fault_beside A nodes saves fails StoreInUse is = is
+finish_fault_beside A nodes saves fails (PortTaken port) is = is
+finish_fault_beside A nodes saves fails (Log fault) is = is
+finish_fault_beside A nodes saves fails AnotherOpening is = is
 
--- the same of a server: its crew may be gone for another reason too
+-- where nothing is saved, a server ends with no more than where something is
+pub unsaved_fault : (A : Type 0) (nodes : ℕ) (saves fails : Bool) (fault : ServeFault) → IsServingFault nodes A false fails fault
+    → IsServingFault nodes A saves fails fault
+unsaved_fault A nodes saves fails (Run fault) is = is
+unsaved_fault A nodes saves fails ReadBack is = cc
+unsaved_fault A nodes saves fails Store is = is
+unsaved_fault A nodes saves fails StoreInUse is = is
+unsaved_fault A nodes saves fails (PortTaken port) is = is
+unsaved_fault A nodes saves fails (Log fault) is = is
+unsaved_fault A nodes saves fails AnotherOpening is = is
+
+-- a server's crew that may be gone may be gone for another reason too
 serving_run_fault_if : {A B : Type 0} (nodes : ℕ) (fault : RunFault) → (A → B) → IsServingRunFault nodes A fault → IsServingRunFault nodes B fault
 serving_run_fault_if nodes (Input line fault) f is = is
 serving_run_fault_if nodes (Strayed node reason) f is = is

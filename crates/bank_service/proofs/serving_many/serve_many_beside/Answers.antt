@@ -12,5 +12,5 @@ with_team-requires-clause-ready g c κs within =
     let log = server.primary.log in (
       no_entries_none_out server.primary.node.board c.requires.opened,
       begins_ready (length log) clients c.requires.fresh,
-      (first_history log, begins_served (opening_rows_of server.primary) log clients c.node-_node.ensures.valid.log c.requires.fresh),
+      (first_history log, begins_served (opening_rows_of server.primary) log clients c.node-node.ensures.valid.log c.requires.fresh),
     )

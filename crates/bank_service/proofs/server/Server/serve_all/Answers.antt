@@ -59,6 +59,6 @@ returns-in_err-serve_next-clause-fault g c =
     let board = c.loop-before.self.primary.node.board in
     let fault = c.in_err-serve_next.field-0.0 in
     rw (p.1, p.2) (subst (λ (plan : Plan). IsServingFault nodes (g.C.Crew.keeps ≡ true) plan.saves g.K.Keeper.fails fault) kept.plan
-    (finish_fault_beside nodes c.loop-before.self.plan.saves g.K.Keeper.fails fault
+    (finish_fault_beside (g.C.Crew.keeps ≡ true) nodes c.loop-before.self.plan.saves g.K.Keeper.fails fault
     (finish_fault_if c.loop-before.self.plan.saves g.K.Keeper.fails fault (keeps_if g.C.Crew.keeps board (idle_none_out board kept.left.all.idle))
     c.in_err-serve_next.ensures.fault)))
