@@ -44,11 +44,11 @@ pub(crate) fn compare_if_due<R: Wait, S: CheckpointStore, K: Keeper, C: Crew>(
 ) -> Result<(), ServeFault>
     ensures compared { OnOk result (length primary.new.log < followers.new.compared + COMPARED_ENTRIES) }
     ensures log { primary.new.log ≡ primary.old.log }
-    ensures bank { PreservesBank K.Keeps K.opening K.has_failed primary.old primary.new }
+    ensures bank { PreservesBank K.model primary.old primary.new }
     ensures none_out { C.keeps ≡ false → HasNoneOut primary.old.node.board → HasNoneOut primary.new.node.board }
     ensures nodes { followers.new.nodes ≡ followers.old.nodes }
     ensures fault { IfErr result (IsServingFault followers.old.nodes
-        (C.keeps ≡ false → ¬ HasNoneOut primary.old.node.board) false K.fails) }
+        (C.keeps ≡ false → ¬ HasNoneOut primary.old.node.board) false K.model.fails) }
 {
     if !followers.is_comparison_due(primary.log().length()) {
         return Ok(());

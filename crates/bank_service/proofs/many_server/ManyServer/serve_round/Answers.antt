@@ -19,7 +19,7 @@ returns-clause-fault g c =
     let mid = c.serve.new.primary.node.board in
     let nodes = c.args.followers.now.nodes in
     let saves = c.args.self.now.plan.saves in
-    let fails = g.K.Keeper.fails in
+    let fails = g.K.Keeper.model.fails in
     if_err c.compare_if_due.result (λ fault is. serving_fault_if nodes saves fails fault
     (λ (gone : g.C.Crew.keeps ≡ false → ¬ HasNoneOut mid) e none. gone e (c.serve.ensures.serves.none_out e none))
     (unsaved_fault (g.C.Crew.keeps ≡ false → ¬ HasNoneOut mid) nodes saves fails fault
