@@ -79,7 +79,8 @@ returns-in-Some-next_over-clause-fault g c =
     if_err c.end_session.result (λ fault is. subst (λ (plan : Plan).
     IsServingFault nodes (g.C.Crew.keeps ≡ false → ¬ HasNoneOut c.args.self.now.primary.node.board) plan.saves g.K.Keeper.fails fault) kept.plan
     (serving_fault_if nodes saves g.K.Keeper.fails fault (λ gone e none. gone e (kept.none_out e none))
-    (finish_fault_beside (g.C.Crew.keeps ≡ false → ¬ HasNoneOut c.loop.self.primary.node.board) nodes saves g.K.Keeper.fails fault is))) c.end_session.ensures.fault
+    (finish_fault_beside (g.C.Crew.keeps ≡ false → ¬ HasNoneOut c.loop.self.primary.node.board) nodes saves g.K.Keeper.fails fault is))
+    c.end_session.ensures.fault
 
 pub loop-preserved : goal.loop-preserved
 loop-preserved g c =
