@@ -74,7 +74,7 @@ impl<'a, R: Wait> FollowerChannels<'a, R> {
             let Some(link) = self.links.get(number - 1) else {
                 return Err(RunFault::Strayed(number, StrayReason::NoThread));
             };
-            if let Some(reason) = link.why_strayed(self.rt, node, from) {
+            if let Some(reason) = link.compare_lent(self.rt, node, from) {
                 return Err(RunFault::Strayed(number, reason));
             }
         }

@@ -41,7 +41,7 @@ impl FollowerLink {
 
     /// Why the follower strayed from this node 0 since this number, if it did. It lends its replica once
     /// it has handled what it was sent, and gets it back.
-    pub(crate) fn why_strayed<R: Wait, S: CheckpointStore>(
+    pub(crate) fn compare_lent<R: Wait, S: CheckpointStore>(
         &self,
         rt: &R,
         node: &Replica<S>,
