@@ -2,7 +2,7 @@
 ghost use Rattle.sb_ask_log.specs.MemoryLog.{HasAsks};
 
 use sb_ask_log::MemoryLog;
-use sb_calls::{Call, Key};
+use sb_calls::{Call, Key, LOG_CALLS};
 use sb_rows::Name;
 use sb_sequencer::{Numbered, Sequencer};
 use std::alloc::Global;
@@ -27,13 +27,15 @@ fn put(rt: &impl Abort, log: &mut MemoryLog, asks: &mut Sequencer, request: u32)
     let call = Call::Balance(Name::new(b"alice").expect(rt, "a name"));
     assert!(rt; log.reserve().is_ok(), "memory");
     match asks.ask(CLIENT, request, &call) {
-        Ok(Numbered::New(_)) => log.append_reserved(
-            Key {
+        Ok(Numbered::New(_)) => {
+            // The log is valid: each key has one number.
+            prove!(asks.length() <= LOG_CALLS as u64);
+            let key = Key {
                 client: CLIENT,
                 request,
-            },
-            &call,
-        ),
+            };
+            log.append_reserved(key, &call);
+        }
         _ => assert!(rt; false, "a new request"),
     }
 }
