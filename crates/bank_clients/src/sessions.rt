@@ -108,9 +108,9 @@ impl<A: Connections> Sessions<A> {
             (outside_of A.coming A.sent self.old.connections) primary.old.log self.old.clients.all
             (outside_of A.coming A.sent self.new.connections) primary.new.log self.new.clients.all) }
         ensures kept_after_fault { IfErr result (λ fault. IsSettleFault fault
-            → K.Keeps primary.new.keeper primary.new.log) }
+            → K.model.Keeps primary.new.keeper primary.new.log) }
         // What was kept stays kept, and a crew that keeps no job leaves none out, after a fault too.
-        ensures serves { ServesOn K.Keeps K.opening K.has_failed K.fails C.keeps result primary.old primary.new }
+        ensures serves { ServesOn K.model C.keeps result primary.old primary.new }
         ensures fault { IfErr result IsTurnFault }
     {
         admit_all(&mut self.connections, &mut self.clients);

@@ -39,7 +39,7 @@ where
     requires workers { plan.workers ≤ WORKERS }
     requires no_entries { HasNoEntries primary.value.node.board }
     ensures fault { IfErr result (λ fault. IsPortFault port fault
-        ⊎ IsServingFault plan.nodes (0 < plan.workers) plan.saves K.fails fault) }
+        ⊎ IsServingFault plan.nodes (0 < plan.workers) plan.saves K.model.fails fault) }
 {
     let (port, connections) = connections_at(rt, threads, port, clients, &plan, trouble)?;
     let alloc = rt.alloc();

@@ -181,7 +181,7 @@ where
     requires workers { plan.workers ≤ WORKERS }
     requires no_entries { HasNoEntries opened.value.node.board }
     ensures fault { IfErr result (λ fault. IsPortFault port fault
-        ⊎ IsServingFault plan.nodes (0 < plan.workers) plan.saves K.fails fault) }
+        ⊎ IsServingFault plan.nodes (0 < plan.workers) plan.saves K.model.fails fault) }
 {
     if let Some(clients) = plan.clients {
         return serve_clients_at(rt, threads, port, opened, clients, plan, trouble);

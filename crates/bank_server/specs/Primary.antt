@@ -1,5 +1,5 @@
 -- The log, node 0, which executes it, and who keeps it.
-use Rattle.std.specs.Prelude.{◌≡◌, ℕ, Bool, Option, None, List, [], ◌++◌, map}
+use Rattle.std.specs.Prelude.{◌≡◌, ℕ, None, List, [], ◌++◌, map}
 use Rattle.sb_rows.specs.Rows.{Rows, SameCustomers, rows_of}
 use Rattle.sb_calls.specs.Op.{op_of}
 use Rattle.sb_calls.specs.declared.ask.Key.{Key}
@@ -9,7 +9,7 @@ use Rattle.sb_rows.specs.declared.opening.Opening.{Opening}
 use Rattle.cown_board.specs.Board.{BoardOf}
 use Rattle.sb_replica.specs.Replica.{ReplicaOf, replica_at_opening, rest_of}
 use Rattle.sb_sequencer.specs.Numbering.{IsLog, calls_of}
-use Rattle.sb_ask_log.specs.Keeping.{KeeperGoesOn}
+use Rattle.sb_ask_log.specs.Keeping.{KeeperGoesOn, KeeperModel}
 use Rattle.bank_server.specs.Execution.{IsWholeLog, IsOneByOne}
 use Rattle.bank_server.specs.declared.node0.ask_counts.AskCounts.{AskCounts}
 
@@ -51,11 +51,10 @@ HasWholeLog primary = IsWholeLog (log_ops primary.node.names primary.log) primar
 
 -- node 0 keeps its identity, its names and its store, over the same opening, and the log's keeper
 -- goes on
-pub record PreservesBank {S K : Type 0} (keeps : K → List (Key × Call) → Type 0) (opening_of : K → Option (List ℕ))
-    (has_failed : K → Bool) (old new : PrimaryOf S K) : Type 0 where
+pub record PreservesBank {S K : Type 0} (model : KeeperModel K) (old new : PrimaryOf S K) : Type 0 where
   pub rest : rest_of new.node ≡ rest_of old.node
   pub opening : new.node.board.opening ≡ old.node.board.opening
-  pub keeper : KeeperGoesOn keeps opening_of has_failed old.keeper old.log new.keeper new.log
+  pub keeper : KeeperGoesOn model old.keeper old.log new.keeper new.log
 
 -- a node that had nothing of this log executed it, over its names and its opening, as if the calls
 -- were run one by one

@@ -1,16 +1,15 @@
 -- A bank after its sessions.
-use Rattle.std.proofs.Common.{ℕ, ◌+◌, Bool, Option, false, List, refl, ◌∙◌, arith}
+use Rattle.std.proofs.Common.{ℕ, ◌+◌, Bool, false, refl, ◌∙◌, arith}
 use Rattle.sb_checkpoint.specs.Stores.{StoreModel}
-use Rattle.sb_calls.specs.declared.ask.Key.{Key}
-use Rattle.sb_calls.specs.declared.call.Call.{Call}
+use Rattle.sb_ask_log.specs.Keeping.{KeeperModel}
 use Rattle.sb_sequencer.specs.Numbering.{IsLog}
 use Rattle.bank_server.specs.Primary.{HasWholeLog, PrimaryOf}
 use Rattle.bank_service.specs.ServedBank.{IsBankAfter}
 
-module _ {S K : Type 0} (model : StoreModel S) (keeps : K → List (Key × Call) → Type 0) (text_of : K → Option (List ℕ)) where
+module _ {S K : Type 0} (model : StoreModel S) (keeper : KeeperModel K) where
   -- before any session
-  pub left_at_first : (saves : Bool) (bank : PrimaryOf S K) → IsLog bank.log → HasWholeLog bank → keeps bank.keeper bank.log
-      → IsBankAfter model keeps text_of saves 0 bank bank
+  pub left_at_first : (saves : Bool) (bank : PrimaryOf S K) → IsLog bank.log → HasWholeLog bank → keeper.Keeps bank.keeper bank.log
+      → IsBankAfter model keeper saves 0 bank bank
   left_at_first saves bank one_each all told = record {
     bank = record { names = refl; opening = refl };
     one_each = one_each;
@@ -21,8 +20,8 @@ module _ {S K : Type 0} (model : StoreModel S) (keeps : K → List (Key × Call)
   }
 
   -- one more session
-  pub left_after_next : (saves : Bool) (count : ℕ) (old mid new : PrimaryOf S K) → IsBankAfter model keeps text_of saves count old mid
-      → IsBankAfter model keeps text_of saves 1 mid new → IsBankAfter model keeps text_of saves (count + 1) old new
+  pub left_after_next : (saves : Bool) (count : ℕ) (old mid new : PrimaryOf S K) → IsBankAfter model keeper saves count old mid
+      → IsBankAfter model keeper saves 1 mid new → IsBankAfter model keeper saves (count + 1) old new
   left_after_next saves count old mid new first next = record {
     bank = record { names = next.bank.names ∙ first.bank.names; opening = next.bank.opening ∙ first.bank.opening };
     one_each = next.one_each;
@@ -37,8 +36,8 @@ module _ {S K : Type 0} (model : StoreModel S) (keeps : K → List (Key × Call)
   }
 
   -- behind the step that only executes the log
-  pub left_behind_first : (saves : Bool) (count : ℕ) (old mid new : PrimaryOf S K) → IsBankAfter model keeps text_of false 1 old mid
-      → IsBankAfter model keeps text_of saves count mid new → IsBankAfter model keeps text_of saves count old new
+  pub left_behind_first : (saves : Bool) (count : ℕ) (old mid new : PrimaryOf S K) → IsBankAfter model keeper false 1 old mid
+      → IsBankAfter model keeper saves count mid new → IsBankAfter model keeper saves count old new
   left_behind_first saves count old mid new first next = record {
     bank = record { names = next.bank.names ∙ first.bank.names; opening = next.bank.opening ∙ first.bank.opening };
     one_each = next.one_each;

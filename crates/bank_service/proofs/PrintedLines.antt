@@ -11,6 +11,7 @@ use Rattle.sb_rows.specs.Balances.{Balances}
 use Rattle.sb_rows.specs.Rows.{Rows, rows_of}
 use Rattle.sb_calls.specs.declared.ask.Key.{Key}
 use Rattle.sb_calls.specs.declared.call.Call.{Call}
+use Rattle.sb_ask_log.specs.Keeping.{KeeperModel}
 use Rattle.bank_server.specs.Primary.{PrimaryOf, opening_rows_of}
 use Rattle.bank_service.proofs.SessionsInOrder.{more_came, nobody, one_came}
 use Rattle.bank_server.specs.Clients.{End}
@@ -96,14 +97,14 @@ module _ {R W : Type 0} (sends : R → Option (List ℕ)) (gets : W → Option (
       }
 
   -- the port, the sessions, and the rows of the bank that is left
-  pub serves_bank : {S K : Type 0} (opening : K → Option (List ℕ)) (first opened last : PrimaryOf S K) (count : ℕ) (host : IpAddr) (at : Option ℕ)
+  pub serves_bank : {S K : Type 0} (keeper : KeeperModel K) (first opened last : PrimaryOf S K) (count : ℕ) (host : IpAddr) (at : Option ℕ)
       (clients then : Option (ListenerClients R W)) (a b c d e f : Option (List ℕ))
       → IsSameBank first opened → IsSameBank first last
-      → opening opened.keeper ≡ opening first.keeper → opening last.keeper ≡ opening first.keeper
-      → opened.log ≡ first.log → PrintsLog opening opened a b → PrintsPort host at b c
-      → ServesAll sends gets (opening_rows_of opened) count clients then opened.log last.log c d → PrintsLog opening last d e → PrintsRows last e f
-      → ServesBank sends gets first.node.names first.node.board.opening count host at clients then first.log last.log (opening first.keeper) a f
-  serves_bank opening first opened last count host at clients then a b c d e f early same text text_then same_log line (port, listens, start) served
+      → keeper.opening opened.keeper ≡ keeper.opening first.keeper → keeper.opening last.keeper ≡ keeper.opening first.keeper
+      → opened.log ≡ first.log → PrintsLog keeper opened a b → PrintsPort host at b c
+      → ServesAll sends gets (opening_rows_of opened) count clients then opened.log last.log c d → PrintsLog keeper last d e → PrintsRows last e f
+      → ServesBank sends gets first.node.names first.node.board.opening count host at clients then first.log last.log (keeper.opening first.keeper) a f
+  serves_bank keeper first opened last count host at clients then a b c d e f early same text text_then same_log line (port, listens, start) served
       last_line rows =
       let same_lines : end_lines last.node.names last.node.board.opening last.log ≡ end_lines first.node.names first.node.board.opening last.log =
       ap (λ (names : List (List ℕ)). end_lines names last.node.board.opening last.log) same.names
@@ -119,13 +120,13 @@ module _ {R W : Type 0} (sends : R → Option (List ℕ)) (gets : W → Option (
             (subst (λ (rows : Rows). ServesFirst sends gets rows clients then opened.log served.ends last.log) (same_rows first opened early) served.heard);
         printed =
             let sessions = session_lines 1 served.ends in
-            let lines = log_lines (opening first.keeper) last.log in
+            let lines = log_lines (keeper.opening first.keeper) last.log in
             let rest = PrintsLines-trans b e f ((port_line host port ∷ sessions) ++ lines) ended
             (PrintsLines-trans b d e (port_line host port ∷ sessions) lines
             (PrintsLines-trans b c d (port_line host port ∷ []) sessions start served.printed)
             (subst (λ (text : Option (List ℕ)). PrintsLines (log_lines text last.log) d e) text_then last_line))
             (subst (λ (ls : List (List ℕ)). PrintsLines ls e f) same_lines rows) in
-            PrintsLines-trans a b f (log_lines (opening first.keeper) first.log) (((port_line host port ∷ sessions) ++ lines) ++ ended)
+            PrintsLines-trans a b f (log_lines (keeper.opening first.keeper) first.log) (((port_line host port ∷ sessions) ++ lines) ++ ended)
             (subst (λ (text : Option (List ℕ)). PrintsLines (log_lines text first.log) a b) text
-            (subst (λ (log : Log). PrintsLines (log_lines (opening opened.keeper) log) a b) same_log line)) rest;
+            (subst (λ (log : Log). PrintsLines (log_lines (keeper.opening opened.keeper) log) a b) same_log line)) rest;
       }

@@ -4,6 +4,7 @@ use Rattle.std.specs.Prelude.{Result, Ok, Err, IfSome, OnOk, slice_get}
 use Rattle.std.proofs.KnownBytes.{Appends-nil}
 use Rattle.std.proofs.lemmas.List.Elements.{All-append, All-cons, All-nil}
 use Rattle.sb_checkpoint.specs.Stores.{StoreModel}
+use Rattle.sb_ask_log.specs.Keeping.{KeeperModel}
 use Rattle.sb_calls.specs.declared.ask.Key.{Key}
 use Rattle.sb_calls.specs.declared.call.Call.{Call}
 use Rattle.sb_rows.specs.Balances.{Balances}
@@ -78,18 +79,18 @@ nothing_is_out e = cc
 pub no_entries_none_out : (board : BoardOf Op) → HasNoEntries board → HasNoneOut board
 no_entries_none_out board none k is = nothing_is_out (subst (λ (states : List State). slice_get states k ≡ Some Out) none.states is)
 
-module _ {S K : Type 0} (model : StoreModel S) (keeps : K → List (Key × Call) → Type 0) (text_of : K → Option (List ℕ)) where
+module _ {S K : Type 0} (model : StoreModel S) (keeper : KeeperModel K) where
   -- ---- the bank stays
 
-  stays_at_first : (saves : Bool) (bank : PrimaryOf S K) → StaysBank model text_of saves bank bank
+  stays_at_first : (saves : Bool) (bank : PrimaryOf S K) → StaysBank model keeper saves bank bank
   stays_at_first saves bank = record {
     bank = record { names = refl; opening = refl };
     text = refl;
     store = record { honest = λ honest. honest; stored = λ s some honest. absurd (omega (arith, some)); unchanged = λ s. refl };
   }
 
-  stays_then : (saves : Bool) (old mid new : PrimaryOf S K) → StaysBank model text_of saves old mid → StaysBank model text_of saves mid new
-      → StaysBank model text_of saves old new
+  stays_then : (saves : Bool) (old mid new : PrimaryOf S K) → StaysBank model keeper saves old mid → StaysBank model keeper saves mid new
+      → StaysBank model keeper saves old new
   stays_then saves old mid new first next = record {
     bank = record { names = next.bank.names ∙ first.bank.names; opening = next.bank.opening ∙ first.bank.opening };
     text = next.text ∙ first.text;
@@ -101,9 +102,9 @@ module _ {S K : Type 0} (model : StoreModel S) (keeps : K → List (Key × Call)
   }
 
   -- in a round
-  stays_in_round : (has_failed : K → Bool) (saves : Bool) (old new : PrimaryOf S K) → PreservesBank keeps text_of has_failed old new
-      → StaysBank model text_of saves old new
-  stays_in_round has_failed saves old new kept =
+  stays_in_round : (saves : Bool) (old new : PrimaryOf S K) → PreservesBank keeper old new
+      → StaysBank model keeper saves old new
+  stays_in_round saves old new kept =
       let same : new.node.store ≡ old.node.store = ap (λ (r : RestOf S). r.store) kept.rest in
       record {
         bank = record { names = ap (λ (r : RestOf S). r.names) kept.rest; opening = kept.opening };
@@ -116,7 +117,7 @@ module _ {S K : Type 0} (model : StoreModel S) (keeps : K → List (Key × Call)
       }
 
   -- as a session is finished
-  stays_in_session : (saves : Bool) (old new : PrimaryOf S K) → IsBankAfter model keeps text_of saves 1 old new → StaysBank model text_of saves old new
+  stays_in_session : (saves : Bool) (old new : PrimaryOf S K) → IsBankAfter model keeper saves 1 old new → StaysBank model keeper saves old new
   stays_in_session saves old new after = record {
     bank = after.bank;
     text = after.text;
@@ -128,8 +129,8 @@ module _ {S K : Type 0} (model : StoreModel S) (keeps : K → List (Key × Call)
   }
 
   -- a bank that stayed, and is finished then
-  finished_then : (saves : Bool) (old mid new : PrimaryOf S K) → StaysBank model text_of saves old mid → IsBankAfter model keeps text_of saves 1 mid new
-      → IsBankAfter model keeps text_of saves 1 old new
+  finished_then : (saves : Bool) (old mid new : PrimaryOf S K) → StaysBank model keeper saves old mid → IsBankAfter model keeper saves 1 mid new
+      → IsBankAfter model keeper saves 1 old new
   finished_then saves old mid new first next = record {
     bank = record { names = next.bank.names ∙ first.bank.names; opening = next.bank.opening ∙ first.bank.opening };
     one_each = next.one_each;
@@ -146,7 +147,7 @@ module _ {S K : Type 0} (model : StoreModel S) (keeps : K → List (Key × Call)
   -- ---- sessions
 
   pub some_at_first : (saves : Bool) (o : OutsideOf) (clients : List ClientOf) (bank : PrimaryOf S K) (a : Option (List ℕ))
-      → ServesSome model text_of saves 0 o o clients clients bank bank a a
+      → ServesSome model keeper saves 0 o o clients clients bank bank a a
   unfolding session_lines
   some_at_first saves o clients bank a = record {
     goes_on = stays_on (opening_rows_of bank) o bank.log clients;
@@ -167,24 +168,24 @@ module _ {S K : Type 0} (model : StoreModel S) (keeps : K → List (Key × Call)
 
   -- rounds, while no session is over
   pub rounds_at_first : (saves : Bool) (o : OutsideOf) (clients : List ClientOf) (bank : PrimaryOf S K)
-      → GoesOn (opening_rows_of bank) o bank.log clients o bank.log clients × StaysBank model text_of saves bank bank
+      → GoesOn (opening_rows_of bank) o bank.log clients o bank.log clients × StaysBank model keeper saves bank bank
   rounds_at_first saves o clients bank = (stays_on (opening_rows_of bank) o bank.log clients, stays_at_first saves bank)
 
-  pub rounds_then : (has_failed : K → Bool) (saves : Bool) (o p q : OutsideOf) (xs ys zs : List ClientOf) (old mid new : PrimaryOf S K)
-      → GoesOn (opening_rows_of old) o old.log xs p mid.log ys → StaysBank model text_of saves old mid
-      → GoesOn (opening_rows_of mid) p mid.log ys q new.log zs → PreservesBank keeps text_of has_failed mid new
-      → GoesOn (opening_rows_of old) o old.log xs q new.log zs × StaysBank model text_of saves old new
-  rounds_then has_failed saves o p q xs ys zs old mid new on stays round kept = (
+  pub rounds_then : (saves : Bool) (o p q : OutsideOf) (xs ys zs : List ClientOf) (old mid new : PrimaryOf S K)
+      → GoesOn (opening_rows_of old) o old.log xs p mid.log ys → StaysBank model keeper saves old mid
+      → GoesOn (opening_rows_of mid) p mid.log ys q new.log zs → PreservesBank keeper mid new
+      → GoesOn (opening_rows_of old) o old.log xs q new.log zs × StaysBank model keeper saves old new
+  rounds_then saves o p q xs ys zs old mid new on stays round kept = (
     goes_on_then (opening_rows_of old) o p q old.log mid.log new.log xs ys zs on
         (subst (λ (rows : Rows). GoesOn rows p mid.log ys q new.log zs) (same_rows old mid stays.bank) round),
-    stays_then saves old mid new stays (stays_in_round has_failed saves mid new kept),
+    stays_then saves old mid new stays (stays_in_round saves mid new kept),
   )
 
   -- behind these rounds a session is over
   pub over_behind : (saves : Bool) (number : ℕ) (o p q : OutsideOf) (xs ys zs : List ClientOf) (old mid new : PrimaryOf S K) (a b c : Option (List ℕ))
-      (end : End) → GoesOn (opening_rows_of old) o old.log xs p mid.log ys → StaysBank model text_of saves old mid → b ≡ a → ServerContinues end
-      → PrintsLines (session_line number end ∷ []) b c → IsBankAfter model keeps text_of saves 1 mid new → new.log ≡ mid.log → zs ≡ ys → q ≡ p
-      → ServesOver model text_of saves number o q xs zs old new a c
+      (end : End) → GoesOn (opening_rows_of old) o old.log xs p mid.log ys → StaysBank model keeper saves old mid → b ≡ a → ServerContinues end
+      → PrintsLines (session_line number end ∷ []) b c → IsBankAfter model keeper saves 1 mid new → new.log ≡ mid.log → zs ≡ ys → q ≡ p
+      → ServesOver model keeper saves number o q xs zs old new a c
   over_behind saves number o p q xs ys zs old mid new a b c end on stays same continues printed after log clients outside = record {
     goes_on = subst (λ (l : CallLog). GoesOn (opening_rows_of old) o old.log xs q l zs) (sym log)
         (subst (λ (l : List ClientOf). GoesOn (opening_rows_of old) o old.log xs q mid.log l) (sym clients)
@@ -197,8 +198,8 @@ module _ {S K : Type 0} (model : StoreModel S) (keeps : K → List (Key × Call)
 
   -- one session more is over
   pub some_then_over : (saves : Bool) (count : ℕ) (o p q : OutsideOf) (xs ys zs : List ClientOf) (old mid new : PrimaryOf S K) (a b c : Option (List ℕ))
-      → ServesSome model text_of saves count o p xs ys old mid a b → ServesOver model text_of saves (count + 1) p q ys zs mid new b c
-      → ServesSome model text_of saves (count + 1) o q xs zs old new a c
+      → ServesSome model keeper saves count o p xs ys old mid a b → ServesOver model keeper saves (count + 1) p q ys zs mid new b c
+      → ServesSome model keeper saves (count + 1) o q xs zs old new a c
   some_then_over saves count o p q xs ys zs old mid new a b c so_far next =
       let number : 1 + length so_far.ends ≡ count + 1 = omega (arith, so_far.all) in
       record {
@@ -216,21 +217,21 @@ module _ {S K : Type 0} (model : StoreModel S) (keeps : K → List (Key × Call)
 
   -- all that a bank prints
   pub serves_at_once : (plan : Plan) (port : ℕ) (o p : OutsideOf) (xs ys : List ClientOf) (first opened served last : PrimaryOf S K)
-      (a b c d e f : Option (List ℕ)) → IsBankAfter model keeps text_of false 1 first opened → opened.log ≡ first.log
-      → PrintsLog text_of opened a b → PrintsLines (port_line plan.host port ∷ []) b c
-      → ServesSome model text_of plan.saves plan.sessions o p xs ys opened served c d
-      → IsBankAfter model keeps text_of plan.saves 1 served last → last.log ≡ served.log
-      → PrintsLog text_of last d e → PrintsRows last e f
-      → ServesAtOnce model keeps text_of plan port o p xs ys first last a f
+      (a b c d e f : Option (List ℕ)) → IsBankAfter model keeper false 1 first opened → opened.log ≡ first.log
+      → PrintsLog keeper opened a b → PrintsLines (port_line plan.host port ∷ []) b c
+      → ServesSome model keeper plan.saves plan.sessions o p xs ys opened served c d
+      → IsBankAfter model keeper plan.saves 1 served last → last.log ≡ served.log
+      → PrintsLog keeper last d e → PrintsRows last e f
+      → ServesAtOnce model keeper plan port o p xs ys first last a f
   serves_at_once plan port o p xs ys first opened served last a b c d e f early same_log line start some after log last_line rows =
-      let whole = left_behind_first model keeps text_of plan.saves 1 first opened last early
+      let whole = left_behind_first model keeper plan.saves 1 first opened last early
       (finished_then plan.saves opened served last some.stays after) in
       let same_lines : end_lines last.node.names last.node.board.opening last.log ≡ end_lines first.node.names first.node.board.opening last.log =
       ap (λ (names : List (List ℕ)). end_lines names last.node.board.opening last.log) whole.bank.names
       ∙ ap (λ (opening : Balances). end_lines first.node.names opening last.log) whole.bank.opening in
       let ended = end_lines first.node.names first.node.board.opening last.log in
       let sessions = session_lines 1 some.ends in
-      let lines = log_lines (text_of first.keeper) last.log in
+      let lines = log_lines (keeper.opening first.keeper) last.log in
       record {
         goes_on = subst (λ (l : CallLog). GoesOn (opening_rows_of first) o first.log xs p l ys) (sym log)
             (subst (λ (l : CallLog). GoesOn (opening_rows_of first) o l xs p served.log ys) same_log
@@ -244,8 +245,8 @@ module _ {S K : Type 0} (model : StoreModel S) (keeps : K → List (Key × Call)
             (PrintsLines-trans b c d (port_line plan.host port ∷ []) sessions start some.printed)
             (subst (λ (text : Option (List ℕ)). PrintsLines (log_lines text last.log) d e) whole.text last_line))
             (subst (λ (ls : List (List ℕ)). PrintsLines ls e f) same_lines rows) in
-            PrintsLines-trans a b f (log_lines (text_of first.keeper) first.log) (((port_line plan.host port ∷ sessions) ++ lines) ++ ended)
+            PrintsLines-trans a b f (log_lines (keeper.opening first.keeper) first.log) (((port_line plan.host port ∷ sessions) ++ lines) ++ ended)
             (subst (λ (text : Option (List ℕ)). PrintsLines (log_lines text first.log) a b) early.text
-            (subst (λ (l : CallLog). PrintsLines (log_lines (text_of opened.keeper) l) a b) same_log line)) rest;
+            (subst (λ (l : CallLog). PrintsLines (log_lines (keeper.opening opened.keeper) l) a b) same_log line)) rest;
         left = whole;
       }

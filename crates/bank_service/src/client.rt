@@ -41,7 +41,7 @@ where
         IsSession (opening_rows_of primary.old) primary.old.log sent result primary.new.log
         (W.contents client.old.writer) (W.contents client.new.writer)) }
     // The bank goes on, after a fault too.
-    ensures serves { ServesOn K.Keeps K.opening K.has_failed K.fails C.keeps result primary.old primary.new }
+    ensures serves { ServesOn K.model C.keeps result primary.old primary.new }
 {
     if set_up(&client.reader, patience).is_err() {
         return Err(SessionFault::Device);

@@ -64,12 +64,12 @@ where
         × ((h : HistoryOf)
         × ServesEach (opening_rows_of server.primary) h server.primary.log server.sessions.clients.all) };
 
-    ghost does = { λ server nodes workers keeps answer. IfOk answer (λ bank. ServesAtOnce S.model K.Keeps K.opening
+    ghost does = { λ server nodes workers keeps answer. IfOk answer (λ bank. ServesAtOnce S.model K.model
         server.plan server.port
         (outside_of A.coming A.sent server.sessions.connections) (outside_of A.coming A.sent bank.sessions.connections)
         server.sessions.clients.all bank.sessions.clients.all server.primary bank.primary
         (W.contents server.writer) (W.contents bank.writer))
-        × IfErr answer (IsServingFault nodes (keeps ≡ true) server.plan.saves K.fails) };
+        × IfErr answer (IsServingFault nodes (keeps ≡ true) server.plan.saves K.model.fails) };
 
     // Serves the bank, and prints its whole output.
     fn carry_out<R, C>(
@@ -109,13 +109,13 @@ where
         requires ready { All (λ client. IsReady (length self.old.primary.log) client) self.old.sessions.clients.all }
         requires begun { (h : HistoryOf)
             × ServesEach (opening_rows_of self.old.primary) h self.old.primary.log self.old.sessions.clients.all }
-        ensures served { OnOk result (ServesAtOnce S.model K.Keeps K.opening self.old.plan self.old.port
+        ensures served { OnOk result (ServesAtOnce S.model K.model self.old.plan self.old.port
             (outside_of A.coming A.sent self.old.sessions.connections)
             (outside_of A.coming A.sent self.new.sessions.connections)
             self.old.sessions.clients.all self.new.sessions.clients.all self.old.primary self.new.primary
             (W.contents self.old.writer) (W.contents self.new.writer)) }
         ensures fault { IfErr result (IsServingFault followers.old.nodes (C.keeps ≡ true) self.old.plan.saves
-            K.fails) }
+            K.model.fails) }
     {
         // The log that the bank opens with is executed, and sent to the followers.
         finish_session(&mut self.primary, followers, false, crew)?;
@@ -142,7 +142,7 @@ where
         requires ready { All (λ client. IsReady (length self.old.primary.log) client) self.old.sessions.clients.all }
         requires begun { (h : HistoryOf)
             × ServesEach (opening_rows_of self.old.primary) h self.old.primary.log self.old.sessions.clients.all }
-        ensures served { OnOk result (ServesSome S.model K.opening self.old.plan.saves self.old.plan.sessions
+        ensures served { OnOk result (ServesSome S.model K.model self.old.plan.saves self.old.plan.sessions
             (outside_of A.coming A.sent self.old.sessions.connections)
             (outside_of A.coming A.sent self.new.sessions.connections)
             self.old.sessions.clients.all self.new.sessions.clients.all self.old.primary self.new.primary
@@ -150,7 +150,7 @@ where
         ensures none_out { OnOk result (C.keeps ≡ false → HasNoneOut self.new.primary.node.board) }
         ensures nodes { followers.new.nodes ≡ followers.old.nodes }
         ensures plan { self.new.plan ≡ self.old.plan }
-        ensures fault { IfErr result (IsFinishFault (C.keeps ≡ true) self.old.plan.saves K.fails) }
+        ensures fault { IfErr result (IsFinishFault (C.keeps ≡ true) self.old.plan.saves K.model.fails) }
     {
         for before in 0..self.plan.sessions {
             self.serve_next(before + 1, rt, followers, crew)?;
@@ -172,7 +172,7 @@ where
         requires ready { All (λ client. IsReady (length self.old.primary.log) client) self.old.sessions.clients.all }
         requires begun { (h : HistoryOf)
             × ServesEach (opening_rows_of self.old.primary) h self.old.primary.log self.old.sessions.clients.all }
-        ensures served { OnOk result (ServesOver S.model K.opening self.old.plan.saves number
+        ensures served { OnOk result (ServesOver S.model K.model self.old.plan.saves number
             (outside_of A.coming A.sent self.old.sessions.connections)
             (outside_of A.coming A.sent self.new.sessions.connections)
             self.old.sessions.clients.all self.new.sessions.clients.all self.old.primary self.new.primary
@@ -183,7 +183,7 @@ where
         ensures nodes { followers.new.nodes ≡ followers.old.nodes }
         ensures plan { self.new.plan ≡ self.old.plan }
         ensures fault { IfErr result (IsFinishFault (C.keeps ≡ false → ¬ HasNoneOut self.old.primary.node.board)
-            self.old.plan.saves K.fails) }
+            self.old.plan.saves K.model.fails) }
     {
         let mut fed = self.primary.log().length();
         for _ in rt.forever() {
@@ -211,14 +211,14 @@ where
             (outside_of A.coming A.sent self.old.sessions.connections) self.old.primary.log
             self.old.sessions.clients.all (outside_of A.coming A.sent self.new.sessions.connections)
             self.new.primary.log self.new.sessions.clients.all) }
-        ensures bank { PreservesBank K.Keeps K.opening K.has_failed self.old.primary self.new.primary }
+        ensures bank { PreservesBank K.model self.old.primary self.new.primary }
         ensures none_out { C.keeps ≡ false → HasNoneOut self.old.primary.node.board
             → HasNoneOut self.new.primary.node.board }
         ensures writer { OnOk result (W.contents self.new.writer ≡ W.contents self.old.writer) }
         ensures nodes { followers.new.nodes ≡ followers.old.nodes }
         ensures plan { self.new.plan ≡ self.old.plan }
         ensures fault { IfErr result (IsFinishFault (C.keeps ≡ false → ¬ HasNoneOut self.old.primary.node.board)
-            self.old.plan.saves K.fails) }
+            self.old.plan.saves K.model.fails) }
     {
         self.sessions.wait()?;
         if let Err(fault) = self.sessions.serve(&mut self.primary, crew) {
@@ -255,7 +255,7 @@ where
         requires goes_on { ServerContinues over.ending }
         ensures printed { OnOk result (PrintsLines (session_line number over.ending ∷ [])
             (W.contents self.old.writer) (W.contents self.new.writer)) }
-        ensures bank_after { OnOk result (IsBankAfter S.model K.Keeps K.opening self.old.plan.saves 1
+        ensures bank_after { OnOk result (IsBankAfter S.model K.model self.old.plan.saves 1
             self.old.primary self.new.primary) }
         ensures log { self.new.primary.log ≡ self.old.primary.log }
         ensures clients { self.new.sessions.clients ≡ self.old.sessions.clients }
@@ -264,7 +264,7 @@ where
         ensures nodes { followers.new.nodes ≡ followers.old.nodes }
         ensures plan { self.new.plan ≡ self.old.plan }
         ensures fault { IfErr result (IsFinishFault (C.keeps ≡ false → ¬ HasNoneOut self.old.primary.node.board)
-            self.old.plan.saves K.fails) }
+            self.old.plan.saves K.model.fails) }
     {
         // The stream stays open until the session is finished, and ends as the client is left. So a
         // client whose stream ends while the server goes on knows that its asks are saved.

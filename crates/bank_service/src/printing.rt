@@ -135,8 +135,8 @@ pub(crate) fn print_log<S: CheckpointStore, K: Keeper, W: Write>(
     primary: &Primary<S, K>,
     writer: &mut W,
 ) -> Result<(), ServeFault>
-    requires { K.Keeps primary.now.keeper primary.now.log }
-    ensures printed { OnOk result (PrintsLog K.opening primary.now (W.contents writer.old) (W.contents writer.new)) }
+    requires { K.model.Keeps primary.now.keeper primary.now.log }
+    ensures printed { OnOk result (PrintsLog K.model primary.now (W.contents writer.old) (W.contents writer.new)) }
     ensures fault { IfErr result IsPrintFault }
 {
     match primary.keeper().digest() {

@@ -54,10 +54,10 @@ where
     ghost ready = { λ server. HasNoneOut server.primary.node.board };
 
     ghost does = { λ server nodes workers keeps answer. IfOk answer (λ bank. ServesByPlan D.Reader.remaining
-        D.Writer.contents S.model K.Keeps K.opening server.plan (D.listens_at server.listener)
+        D.Writer.contents S.model K.model server.plan (D.listens_at server.listener)
         (D.clients server.listener) (D.clients bank.listener) server.primary bank.primary
         (W.contents server.writer) (W.contents bank.writer))
-        × IfErr answer (IsServingFault nodes (keeps ≡ true) server.plan.saves K.fails) };
+        × IfErr answer (IsServingFault nodes (keeps ≡ true) server.plan.saves K.model.fails) };
 
     // Serves the bank, and prints its whole output.
     fn carry_out<R, C>(
@@ -100,12 +100,12 @@ where
         R: Threads + Wait + Clock,
         C: Crew,
         requires none_out { HasNoneOut self.old.primary.node.board }
-        ensures served { OnOk result (ServesByPlan D.Reader.remaining D.Writer.contents S.model K.Keeps K.opening
+        ensures served { OnOk result (ServesByPlan D.Reader.remaining D.Writer.contents S.model K.model
             self.old.plan (D.listens_at self.old.listener) (D.clients self.old.listener)
             (D.clients self.new.listener) self.old.primary self.new.primary
             (W.contents self.old.writer) (W.contents self.new.writer)) }
         ensures fault { IfErr result (IsServingFault followers.old.nodes (C.keeps ≡ true) self.old.plan.saves
-            K.fails) }
+            K.model.fails) }
     {
         // The log that the bank opens with is executed, and sent to the followers.
         finish_session(&mut self.primary, followers, false, crew)?;
@@ -129,16 +129,16 @@ where
         C: Crew,
         requires one_each { IsLog self.old.primary.log }
         requires whole_log { HasWholeLog self.old.primary }
-        requires kept { K.Keeps self.old.primary.keeper self.old.primary.log }
+        requires kept { K.model.Keeps self.old.primary.keeper self.old.primary.log }
         ensures served { OnOk result (ServesAll D.Reader.remaining D.Writer.contents
             (opening_rows_of self.old.primary) self.old.plan.sessions
             (D.clients self.old.listener) (D.clients self.new.listener) self.old.primary.log self.new.primary.log
             (W.contents self.old.writer) (W.contents self.new.writer)) }
-        ensures bank_after { OnOk result (IsBankAfter S.model K.Keeps K.opening self.old.plan.saves
+        ensures bank_after { OnOk result (IsBankAfter S.model K.model self.old.plan.saves
             self.old.plan.sessions self.old.primary self.new.primary) }
         ensures nodes { followers.new.nodes ≡ followers.old.nodes }
         ensures plan { self.new.plan ≡ self.old.plan }
-        ensures fault { IfErr result (IsFinishFault (C.keeps ≡ true) self.old.plan.saves K.fails) }
+        ensures fault { IfErr result (IsFinishFault (C.keeps ≡ true) self.old.plan.saves K.model.fails) }
     {
         for before in 0..self.plan.sessions {
             self.serve_next(before + 1, rt, followers, crew)?;
@@ -162,12 +162,12 @@ where
             (opening_rows_of self.old.primary) number
             (D.clients self.old.listener) (D.clients self.new.listener) self.old.primary.log self.new.primary.log
             (W.contents self.old.writer) (W.contents self.new.writer)) }
-        ensures bank_after { OnOk result (IsBankAfter S.model K.Keeps K.opening self.old.plan.saves 1
+        ensures bank_after { OnOk result (IsBankAfter S.model K.model self.old.plan.saves 1
             self.old.primary self.new.primary) }
         ensures nodes { followers.new.nodes ≡ followers.old.nodes }
         ensures plan { self.new.plan ≡ self.old.plan }
         ensures fault { IfErr result (IsFinishFault (C.keeps ≡ false → ¬ HasNoneOut self.old.primary.node.board)
-            self.old.plan.saves K.fails) }
+            self.old.plan.saves K.model.fails) }
     {
         // The stream stays open until the session is finished, and ends as the client is left. So a
         // client whose stream ends while the server goes on knows that its asks are saved.

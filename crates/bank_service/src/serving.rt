@@ -113,11 +113,11 @@ where
     requires nodes { server.plan.nodes ≤ REPLICAS }
     requires workers { server.plan.workers ≤ WORKERS }
     requires opened { HasNoEntries server.primary.node.board }
-    ensures served { IfOk result (λ bank. ServesByPlan D.Reader.remaining D.Writer.contents S.model K.Keeps K.opening
+    ensures served { IfOk result (λ bank. ServesByPlan D.Reader.remaining D.Writer.contents S.model K.model
         server.plan (D.listens_at server.listener) (D.clients server.listener) (D.clients bank.listener)
         server.primary bank.primary (W.contents server.writer) (W.contents bank.writer)) }
     ensures fault { IfErr result (IsServingFault server.plan.nodes (0 < server.plan.workers) server.plan.saves
-        K.fails) }
+        K.model.fails) }
 {
     let followers = ReadyFollowers::open(
         server.alloc,
@@ -144,11 +144,11 @@ where
     requires nodes { followers.nodes ≤ REPLICAS }
     requires workers { server.plan.workers ≤ WORKERS }
     requires none_out { HasNoneOut server.primary.node.board }
-    ensures served { IfOk result (λ bank. ServesByPlan D.Reader.remaining D.Writer.contents S.model K.Keeps K.opening
+    ensures served { IfOk result (λ bank. ServesByPlan D.Reader.remaining D.Writer.contents S.model K.model
         server.plan (D.listens_at server.listener) (D.clients server.listener) (D.clients bank.listener)
         server.primary bank.primary (W.contents server.writer) (W.contents bank.writer)) }
     ensures fault { IfErr result (IsServingFault followers.nodes (0 < server.plan.workers) server.plan.saves
-        K.fails) }
+        K.model.fails) }
 {
     let (alloc, workers) = (server.alloc, server.plan.workers);
     with_team(rt, alloc, followers, workers, &OpenGate, server)?

@@ -47,12 +47,12 @@ where
     requires workers { server.plan.workers ≤ WORKERS }
     requires opened { HasNoEntries server.primary.node.board }
     requires fresh { All (λ client. client ≡ fresh_client) server.sessions.clients.all }
-    ensures served { IfOk result (λ bank. ServesAtOnce S.model K.Keeps K.opening server.plan server.port
+    ensures served { IfOk result (λ bank. ServesAtOnce S.model K.model server.plan server.port
         (outside_of A.coming A.sent server.sessions.connections) (outside_of A.coming A.sent bank.sessions.connections)
         server.sessions.clients.all bank.sessions.clients.all server.primary bank.primary
         (W.contents server.writer) (W.contents bank.writer)) }
     ensures fault { IfErr result (IsServingFault server.plan.nodes (0 < server.plan.workers) server.plan.saves
-        K.fails) }
+        K.model.fails) }
 {
     let followers = ReadyFollowers::open(
         server.alloc,

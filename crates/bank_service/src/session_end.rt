@@ -27,12 +27,12 @@ pub(crate) fn finish_session<R: Wait, S: CheckpointStore, K: Keeper, C: Crew>(
     crew: &mut C,
 ) -> Result<(), ServeFault>
     ensures log { primary.new.log ≡ primary.old.log }
-    ensures bank_after { OnOk result (IsBankAfter S.model K.Keeps K.opening saves 1 primary.old primary.new) }
+    ensures bank_after { OnOk result (IsBankAfter S.model K.model saves 1 primary.old primary.new) }
     // The whole log was sent to the followers.
     ensures sent { OnOk result (length primary.new.log ≤ followers.new.sent) }
     ensures nodes { followers.new.nodes ≡ followers.old.nodes }
     ensures fault { IfErr result (IsFinishFault (C.keeps ≡ false → ¬ HasNoneOut primary.old.node.board)
-        saves K.fails) }
+        saves K.model.fails) }
 {
     settle_log(primary, crew)?;
     keep_log(primary)?;
@@ -42,10 +42,10 @@ pub(crate) fn finish_session<R: Wait, S: CheckpointStore, K: Keeper, C: Crew>(
 
 // Has the whole log kept.
 fn keep_log<S: CheckpointStore, K: Keeper>(primary: &mut Primary<S, K>) -> Result<(), ServeFault>
-    ensures kept { OnOk result (K.Keeps primary.new.keeper primary.new.log) }
+    ensures kept { OnOk result (K.model.Keeps primary.new.keeper primary.new.log) }
     ensures unchanged { primary.new ≡ record primary.old { keeper = primary.new.keeper } }
-    ensures text { K.opening primary.new.keeper ≡ K.opening primary.old.keeper }
-    ensures fault { IfErr result (IsFinishFault ⊥ false K.fails) }
+    ensures text { K.model.opening primary.new.keeper ≡ K.model.opening primary.old.keeper }
+    ensures fault { IfErr result (IsFinishFault ⊥ false K.model.fails) }
 {
     match primary.keep() {
         Ok(()) => Ok(()),
@@ -60,12 +60,12 @@ fn settle_log<S: CheckpointStore, K: Keeper, C: Crew>(
     primary: &mut Primary<S, K>,
     crew: &mut C,
 ) -> Result<(), ServeFault>
-    ensures bank { PreservesBank K.Keeps K.opening K.has_failed primary.old primary.new }
+    ensures bank { PreservesBank K.model primary.old primary.new }
     ensures log { primary.new.log ≡ primary.old.log }
     ensures one_each { IsLog primary.new.log }
     ensures whole_log { OnOk result (HasWholeLog primary.new) }
     ensures fault { IfErr result (IsFinishFault (C.keeps ≡ false → ¬ HasNoneOut primary.old.node.board)
-        false K.fails) }
+        false K.model.fails) }
 {
     match primary.settle(crew) {
         Ok(()) => Ok(()),
@@ -80,10 +80,10 @@ fn settle_log<S: CheckpointStore, K: Keeper, C: Crew>(
 fn save<S: CheckpointStore, K: Keeper>(primary: &mut Primary<S, K>) -> Result<(), ServeFault>
     requires one_each { IsLog primary.old.log }
     requires whole_log { HasWholeLog primary.old }
-    requires kept { K.Keeps primary.old.keeper primary.old.log }
+    requires kept { K.model.Keeps primary.old.keeper primary.old.log }
     ensures log { primary.new.log ≡ primary.old.log }
-    ensures bank_after { OnOk result (IsBankAfter S.model K.Keeps K.opening true 1 primary.old primary.new) }
-    ensures fault { IfErr result (IsFinishFault ⊥ true K.fails) }
+    ensures bank_after { OnOk result (IsBankAfter S.model K.model true 1 primary.old primary.new) }
+    ensures fault { IfErr result (IsFinishFault ⊥ true K.model.fails) }
 {
     match primary.save() {
         Ok(_) => Ok(()),

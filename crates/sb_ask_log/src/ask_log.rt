@@ -147,13 +147,12 @@ fn push_asks(log: &Sequencer, from: u64, out: &mut Vec<u8>) -> Result<(), AllocE
 }
 
 impl<F: LogFile> Keeper for AskLog<F> {
-    ghost Keeps = { KeepsAsks F.IsHonest F.content F.synced };
-
-    ghost opening = { λ log. Some log.text };
-
-    ghost fails = { true };
-
-    ghost has_failed = { λ log. log.log.failed };
+    ghost model = { record {
+      Keeps = KeepsAsks F.IsHonest F.content F.synced;
+      opening = λ log. Some log.text;
+      fails = true;
+      has_failed = λ log. log.log.failed;
+    } };
 
     fn keep(&mut self, log: &Sequencer) -> Result<(), LogFault> {
         self.save_rest(log)

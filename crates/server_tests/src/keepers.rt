@@ -25,13 +25,12 @@ struct CountingKeeper {
 }
 
 impl Keeper for CountingKeeper {
-    ghost Keeps = { λ keeper asks. Unit {0} };
-
-    ghost opening = { λ keeper. None };
-
-    ghost fails = { true };
-
-    ghost has_failed = { λ keeper. keeper.failed };
+    ghost model = { record {
+      Keeps = λ keeper asks. Unit {0};
+      opening = λ keeper. None;
+      fails = true;
+      has_failed = λ keeper. keeper.failed;
+    } };
 
     fn keep(&mut self, log: &Sequencer) -> Result<(), LogFault> {
         if self.left == 0 {

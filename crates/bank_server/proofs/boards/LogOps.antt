@@ -14,6 +14,7 @@ use Rattle.sb_replica.specs.Replica.{ReplicaOf, RestOf, rest_of}
 use Rattle.sb_rows.specs.Balances.{Balances}
 use Rattle.sb_rows.specs.Rows.{SameCustomers}
 use Rattle.sb_sequencer.specs.Numbering.{IsLog, call_of_number, calls_of}
+use Rattle.sb_ask_log.specs.Keeping.{KeeperModel}
 use Rattle.bank_server.specs.Faults.{IsExecutionFault}
 use Rattle.bank_server.specs.Primary.{HasPrefixOf, log_ops}
 use Rattle.bank_server.specs.inner.Appends.{AppendsOps}
@@ -71,11 +72,11 @@ length-ops f log = length-map (calls_of log) f ∙ length-map log (λ entry. ent
 -- ---- node 0, while its log grows
 
 -- it has a beginning of a longer log too
-pub kept_by_more : {S K : Type 0} (keeps : K → List (Key × Call) → Type 0) (old new more : List (Key × Call)) (counts now : AskCounts) (keeper : K)
+pub kept_by_more : {S K : Type 0} (model : KeeperModel K) (old new more : List (Key × Call)) (counts now : AskCounts) (keeper : K)
     (node : ReplicaOf S)
-    → IsKeptPrimary keeps (record { log = old; counts = counts; node = node; keeper = keeper }) → IsLog new → new ≡ old ++ more
-    → IsKeptPrimary keeps (record { log = new; counts = now; node = node; keeper = keeper })
-kept_by_more keeps old new more counts now keeper node kept valid longer =
+    → IsKeptPrimary model (record { log = old; counts = counts; node = node; keeper = keeper }) → IsLog new → new ≡ old ++ more
+    → IsKeptPrimary model (record { log = new; counts = now; node = node; keeper = keeper })
+kept_by_more model old new more counts now keeper node kept valid longer =
     let behind = kept.valid.behind in
     let added = log_ops node.names more in
     let ops : log_ops node.names new ≡ log_ops node.names old ++ added =
@@ -104,13 +105,13 @@ kept_by_more keeps old new more counts now keeper node kept valid longer =
 
 -- ---- node 0, one op later
 
-module _ {S K : Type 0} (keeps : K → List (Key × Call) → Type 0) (log : List (Key × Call)) (counts : AskCounts) (keeper : K) (old new : ReplicaOf S)
-    (kept : IsKeptPrimary keeps (record { log = log; counts = counts; node = old; keeper = keeper })) (same : rest_of new ≡ rest_of old) where
+module _ {S K : Type 0} (model : KeeperModel K) (log : List (Key × Call)) (counts : AskCounts) (keeper : K) (old new : ReplicaOf S)
+    (kept : IsKeptPrimary model (record { log = log; counts = counts; node = old; keeper = keeper })) (same : rest_of new ≡ rest_of old) where
   names_same : new.names ≡ old.names
   names_same = ap (λ (r : RestOf S). r.names) same
 
   with_board : new.board.opening ≡ old.board.opening → HasPrefixOf (log_ops old.names log) new.board
-      → IsKeptPrimary keeps (record { log = log; counts = counts; node = new; keeper = keeper })
+      → IsKeptPrimary model (record { log = log; counts = counts; node = new; keeper = keeper })
   with_board opening behind = record {
     valid = record {
       log = kept.valid.log;
@@ -123,7 +124,7 @@ module _ {S K : Type 0} (keeps : K → List (Key × Call) → Type 0) (log : Lis
 
   -- it has put the next op
   pub kept_by_one : (op : Op) → AppendsOps (op ∷ []) old.board new.board → slice_get (log_ops old.names log) (length old.board.log) ≡ Some op
-      → IsKeptPrimary keeps (record { log = log; counts = counts; node = new; keeper = keeper })
+      → IsKeptPrimary model (record { log = log; counts = counts; node = new; keeper = keeper })
   kept_by_one op put here =
       let behind = kept.valid.behind in
       let more = one_more_op (log_ops old.names log) old.board.log behind.begins.0 op behind.begins.1 here in
@@ -134,7 +135,7 @@ module _ {S K : Type 0} (keeps : K → List (Key × Call) → Type 0) (log : Lis
       })
 
   -- it has its log still
-  pub kept_by_same : PreservesLog old.board new.board → IsKeptPrimary keeps (record { log = log; counts = counts; node = new; keeper = keeper })
+  pub kept_by_same : PreservesLog old.board new.board → IsKeptPrimary model (record { log = log; counts = counts; node = new; keeper = keeper })
   kept_by_same stays =
       let behind = kept.valid.behind in
       with_board stays.opening (record {

@@ -1,5 +1,5 @@
 -- What is answered once the whole log is executed.
-use Rattle.std.proofs.Common.{◌≡◌, ℕ, Bool, Option, true, false, Result, Ok, Err, List, refl, ap, subst, ◌∙◌}
+use Rattle.std.proofs.Common.{◌≡◌, ℕ, true, false, Result, Ok, Err, List, refl, ap, subst, ◌∙◌}
 use Rattle.std.specs.Prelude.{IfErr, OnOk}
 use Rattle.std.specs.Result.{is_err}
 use Rattle.sb_rows.specs.Rows.{Rows, SameCustomers, rows_of}
@@ -8,20 +8,21 @@ use Rattle.sb_calls.specs.declared.ask.Key.{Key}
 use Rattle.sb_calls.specs.declared.call.Call.{Call}
 use Rattle.bank_server.specs.Execution.{HasReplies}
 use Rattle.sb_sequencer.specs.Numbering.{calls_of}
+use Rattle.sb_ask_log.specs.Keeping.{KeeperModel}
 use Rattle.bank_server.specs.Primary.{HasWholeLog, PreservesBank, PrimaryOf, opening_rows_of}
 use Rattle.bank_server.proofs.boards.Boards.{all_replies}
 
 -- the rows on which the log is executed stay
-pub same_opening : {S K : Type 0} {keeps : K → List (Key × Call) → Type 0} {opening : K → Option (List ℕ)} {has_failed : K → Bool} (old new : PrimaryOf S K)
-    → PreservesBank keeps opening has_failed old new
+pub same_opening : {S K : Type 0} {model : KeeperModel K} (old new : PrimaryOf S K)
+    → PreservesBank model old new
     → opening_rows_of new ≡ opening_rows_of old
 same_opening old new bank =
     ap (λ (names : List (List ℕ)). rows_of names new.node.board.opening) (ap (λ b. b.names) bank.rest) ∙ ap (rows_of old.node.names) bank.opening
 
 -- its replies are those of the log run one by one
-pub tells_all : {S K : Type 0} {keeps : K → List (Key × Call) → Type 0} {opening : K → Option (List ℕ)} {has_failed : K → Bool} (old new : PrimaryOf S K)
+pub tells_all : {S K : Type 0} {model : KeeperModel K} (old new : PrimaryOf S K)
     → SameCustomers new.node.names new.node.board.opening → HasWholeLog new → new.log ≡ old.log
-    → PreservesBank keeps opening has_failed old new → HasReplies new.node.board (replies_to (opening_rows_of old) (calls_of old.log))
+    → PreservesBank model old new → HasReplies new.node.board (replies_to (opening_rows_of old) (calls_of old.log))
 tells_all old new same all log bank =
     subst (λ (l : List (Key × Call)). HasReplies new.node.board (replies_to (opening_rows_of old) (calls_of l))) log
     (subst (λ (rows : Rows). HasReplies new.node.board (replies_to rows (calls_of new.log))) (same_opening old new bank)

@@ -1,11 +1,10 @@
 -- What is handled, frame after frame, and faults.
-use Rattle.std.proofs.Common.{◌≡◌, ℕ, Bool, Option, false, Result, Err, List, [], ◌++◌, refl, sym, ap, ◌∙◌, append_assoc, arith}
+use Rattle.std.proofs.Common.{◌≡◌, ℕ, Bool, false, Result, Err, List, [], ◌++◌, refl, sym, ap, ◌∙◌, append_assoc, arith}
 use Rattle.std.specs.Prelude.{◌≢◌}
 use Rattle.std.specs.List.{flat_map}
 use Rattle.std.proofs.lemmas.Grind.{flat_map-append}
-use Rattle.sb_calls.specs.declared.ask.Key.{Key}
-use Rattle.sb_calls.specs.declared.call.Call.{Call}
 use Rattle.sb_calls.specs.declared.op.Op.{Op}
+use Rattle.sb_ask_log.specs.Keeping.{KeeperModel}
 use Rattle.cown_board.specs.Board.{BoardOf}
 use Rattle.cown_workers.specs.Draining.{HasNoneOut}
 use Rattle.sb_frames.proofs.Frames.{decoded_settled}
@@ -33,16 +32,16 @@ further bytes heard unread left wires more heard_are read =
 
 -- ---- faults
 
-pub keeps_on : {S K : Type 0} {keeps : K → List (Key × Call) → Type 0} {opening : K → Option (List ℕ)} {has_failed : K → Bool} (old mid new : PrimaryOf S K)
-    → PreservesBank keeps opening has_failed old mid → PreservesBank keeps opening has_failed mid new → PreservesBank keeps opening has_failed old new
+pub keeps_on : {S K : Type 0} {model : KeeperModel K} (old mid new : PrimaryOf S K)
+    → PreservesBank model old mid → PreservesBank model mid new → PreservesBank model old new
 keeps_on old mid new first second = record {
   rest = second.rest ∙ first.rest;
   opening = second.opening ∙ first.opening;
   keeper = goes_on_after old.keeper mid.keeper new.keeper old.log mid.log new.log first.keeper second.keeper;
 }
 
-pub numbers_on : {S K : Type 0} {keeps : K → List (Key × Call) → Type 0} {opening : K → Option (List ℕ)} {has_failed : K → Bool} (old mid new : PrimaryOf S K)
-    → NumbersAsks keeps opening has_failed old mid → NumbersAsks keeps opening has_failed mid new → NumbersAsks keeps opening has_failed old new
+pub numbers_on : {S K : Type 0} {model : KeeperModel K} (old mid new : PrimaryOf S K)
+    → NumbersAsks model old mid → NumbersAsks model mid new → NumbersAsks model old new
 numbers_on old mid new first second = record {
   grows = omega (arith, first.grows, second.grows);
   node = second.node ∙ first.node;

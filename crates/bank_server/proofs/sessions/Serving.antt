@@ -1,11 +1,9 @@
 -- Steps that go on with the bank, one after another.
-use Rattle.std.proofs.Common.{◌≡◌, ℕ, Bool, true, false, Option, Result, List, ap, subst, sym}
+use Rattle.std.proofs.Common.{◌≡◌, Bool, true, false, Result, ap, subst, sym}
 use Rattle.std.specs.Prelude.{IfErr}
-use Rattle.sb_calls.specs.declared.ask.Key.{Key}
-use Rattle.sb_calls.specs.declared.call.Call.{Call}
 use Rattle.sb_log.specs.declared.log_fault.LogFault.{LogFault}
 use Rattle.sb_log.specs.declared.log_fault.LogFault.TheVariants as logs
-use Rattle.sb_ask_log.specs.Keeping.{IsKeepFault}
+use Rattle.sb_ask_log.specs.Keeping.{IsKeepFault, KeeperModel}
 use Rattle.sb_replica.specs.Replica.{ReplicaOf}
 use Rattle.cown_board.specs.Board.{BoardOf}
 use Rattle.cown_workers.specs.Draining.{HasNoneOut}
@@ -64,16 +62,16 @@ log_lost_on fails mid new TooMany on is = tt
 none_out_still : {S K : Type 0} (old new : PrimaryOf S K) → new.node ≡ old.node → HasNoneOut old.node.board → HasNoneOut new.node.board
 none_out_still {S} old new same none = subst (λ (node : ReplicaOf S). HasNoneOut node.board) (sym same) none
 
-module _ {S K : Type 0} {keeps : K → List (Key × Call) → Type 0} {opening : K → Option (List ℕ)} {has_failed : K → Bool} {fails crew_keeps : Bool} where
+module _ {S K : Type 0} {model : KeeperModel K} {crew_keeps : Bool} where
   -- nothing was done
   pub serves_still : {T : Type 0} (result : Result T SessionFault) (bank : PrimaryOf S K) → IfErr result (LosesCrew crew_keeps bank.node.board)
-      → IfErr result (LosesLog fails (has_failed bank.keeper)) → ServesOn keeps opening has_failed fails crew_keeps result bank bank
+      → IfErr result (LosesLog model.fails (model.has_failed bank.keeper)) → ServesOn model crew_keeps result bank bank
   serves_still result bank crew log = record { bank = stays_bank bank; none_out = λ e none. none; crew_lost = crew; log_lost = log }
 
   -- a step behind one that ended well
-  pub serves_behind : {T : Type 0} (result : Result T SessionFault) (old mid new : PrimaryOf S K) → PreservesBank keeps opening has_failed old mid
+  pub serves_behind : {T : Type 0} (result : Result T SessionFault) (old mid new : PrimaryOf S K) → PreservesBank model old mid
       → (crew_keeps ≡ false → HasNoneOut old.node.board → HasNoneOut mid.node.board)
-      → ServesOn keeps opening has_failed fails crew_keeps result mid new → ServesOn keeps opening has_failed fails crew_keeps result old new
+      → ServesOn model crew_keeps result mid new → ServesOn model crew_keeps result old new
   serves_behind result old mid new bank none_out step = record {
     bank = keeps_on old mid new bank step.bank;
     none_out = λ e none. step.none_out e (none_out e none);
@@ -82,29 +80,30 @@ module _ {S K : Type 0} {keeps : K → List (Key × Call) → Type 0} {opening :
   }
 
   -- a step after asks were numbered
-  pub serves_numbered : {T : Type 0} (result : Result T SessionFault) (old mid new : PrimaryOf S K) → NumbersAsks keeps opening has_failed old mid
-      → ServesOn keeps opening has_failed fails crew_keeps result mid new → ServesOn keeps opening has_failed fails crew_keeps result old new
+  pub serves_numbered : {T : Type 0} (result : Result T SessionFault) (old mid new : PrimaryOf S K) → NumbersAsks model old mid
+      → ServesOn model crew_keeps result mid new → ServesOn model crew_keeps result old new
   serves_numbered result old mid new asked step =
       serves_behind result old mid new asked.bank (λ e none. none_out_still old mid asked.node none) step
 
   -- keeping the log is such a step
-  pub keep_serves : {T : Type 0} (result : Result T SessionFault) (old new : PrimaryOf S K) → PreservesBank keeps opening has_failed old new
-      → new ≡ record old { keeper = new.keeper } → IfErr result (IsLogFault fails (has_failed new.keeper))
-      → ServesOn keeps opening has_failed fails crew_keeps result old new
+  pub keep_serves : {T : Type 0} (result : Result T SessionFault) (old new : PrimaryOf S K) → PreservesBank model old new
+      → new ≡ record old { keeper = new.keeper } → IfErr result (IsLogFault model.fails (model.has_failed new.keeper))
+      → ServesOn model crew_keeps result old new
   keep_serves result old new bank same is = record {
     bank = bank;
     none_out = λ e none. none_out_still old new (ap (λ (p : PrimaryOf S K). p.node) same) none;
-    crew_lost = if_err result (log_keeps_crew fails (has_failed new.keeper) crew_keeps old.node.board) is;
-    log_lost = if_err result (log_lost_so fails (has_failed new.keeper)) is;
+    crew_lost = if_err result (log_keeps_crew model.fails (model.has_failed new.keeper) crew_keeps old.node.board) is;
+    log_lost = if_err result (log_lost_so model.fails (model.has_failed new.keeper)) is;
   }
 
   -- a step with this result, and the log is kept then
   pub serves_kept : {T : Type 0} (result : Result T SessionFault) (old mid new : PrimaryOf S K)
-      → ServesOn keeps opening has_failed fails crew_keeps result old mid → PreservesBank keeps opening has_failed mid new
-      → new ≡ record mid { keeper = new.keeper } → ServesOn keeps opening has_failed fails crew_keeps result old new
+      → ServesOn model crew_keeps result old mid → PreservesBank model mid new
+      → new ≡ record mid { keeper = new.keeper } → ServesOn model crew_keeps result old new
   serves_kept result old mid new step bank same = record {
     bank = keeps_on old mid new step.bank bank;
     none_out = λ e none. none_out_still mid new (ap (λ (p : PrimaryOf S K). p.node) same) (step.none_out e none);
     crew_lost = step.crew_lost;
-    log_lost = if_err result (λ fault. log_lost_on fails (has_failed mid.keeper) (has_failed new.keeper) fault bank.keeper.failed) step.log_lost;
+    log_lost = if_err result
+        (λ fault. log_lost_on model.fails (model.has_failed mid.keeper) (model.has_failed new.keeper) fault bank.keeper.failed) step.log_lost;
   }

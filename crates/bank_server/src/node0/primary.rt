@@ -63,7 +63,7 @@ impl<S: CheckpointStore, K: Keeper> Model for Primary<S, K> {
       keeper = p.keeper;
     } };
 
-    ghost invariant = { λ p. IsKeptPrimary K.Keeps (record {
+    ghost invariant = { λ p. IsKeptPrimary K.model (record {
       log = p.log.value.log;
       counts = p.counts;
       node = p.node.value;
@@ -114,7 +114,7 @@ impl<S: CheckpointStore, K: Keeper> Primary<S, K> {
         log: Box<Sequencer>,
         keeper: K,
     ) -> Result<Primary<S, K>, AllocError>
-        requires { KeepsBeginning K.Keeps keeper log.value.log }
+        requires { KeepsBeginning K.model keeper log.value.log }
         ensures log { IfOk result (λ primary. primary.log ≡ log.value.log) }
         ensures counts { IfOk result (λ primary. primary.counts ≡ no_asks) }
         ensures node { IfOk result (λ primary. primary.node ≡ node_at_opening opening store) }
@@ -181,7 +181,7 @@ impl<S: CheckpointStore, K: Keeper> Primary<S, K> {
         // It is counted once.
         ensures counted { IfOk result (λ standing.
             self.new.counts ≡ counts_by (length self.old.log) standing self.old.counts) }
-        ensures numbered { NumbersAsks K.Keeps K.opening K.has_failed self.old self.new }
+        ensures numbered { NumbersAsks K.model self.old self.new }
         ensures err { OnErr result (self.new ≡ self.old) }
     {
         let answer = self.log.ask(key.client, key.request, call);
@@ -203,7 +203,7 @@ impl<S: CheckpointStore, K: Keeper> Primary<S, K> {
         ensures counts { self.new.counts ≡ self.old.counts }
         ensures one_each { IsLog self.new.log }
         // The bank goes on, after a fault too.
-        ensures serves { ServesOn K.Keeps K.opening K.has_failed K.fails C.keeps result self.old self.new }
+        ensures serves { ServesOn K.model C.keeps result self.old self.new }
         ensures fault { IfErr result IsSettleFault }
     {
         for number in self.node.length() + 1..self.log.length() + 1 {
@@ -229,7 +229,7 @@ impl<S: CheckpointStore, K: Keeper> Primary<S, K> {
         // It has one number for each key.
         ensures one_each { IsLog self.new.log }
         // What was kept stays kept, and a crew that keeps no job leaves none out, after a fault too.
-        ensures serves { ServesOn K.Keeps K.opening K.has_failed K.fails C.keeps result self.old self.new }
+        ensures serves { ServesOn K.model C.keeps result self.old self.new }
         ensures fault { IfErr result IsSettleFault }
     {
         self.offer_rest(crew)?;
@@ -240,11 +240,11 @@ impl<S: CheckpointStore, K: Keeper> Primary<S, K> {
     ///
     /// Fails with [`SessionFault::Log`] if the keeper fails.
     pub fn keep(&mut self) -> Result<(), SessionFault>
-        ensures kept { OnOk result (K.Keeps self.new.keeper self.new.log) }
+        ensures kept { OnOk result (K.model.Keeps self.new.keeper self.new.log) }
         ensures unchanged { self.new ≡ record self.old { keeper = self.new.keeper } }
         // What was kept stays kept, after a fault too.
-        ensures bank { PreservesBank K.Keeps K.opening K.has_failed self.old self.new }
-        ensures fault { IfErr result (IsLogFault K.fails (K.has_failed self.new.keeper)) }
+        ensures bank { PreservesBank K.model self.old self.new }
+        ensures fault { IfErr result (IsLogFault K.model.fails (K.model.has_failed self.new.keeper)) }
     {
         Ok(self.keeper.keep(&self.log)?)
     }

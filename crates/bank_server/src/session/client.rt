@@ -119,7 +119,7 @@ pub(crate) fn hear<S: CheckpointStore, K: Keeper>(
         client.new.counts }
     // One that has ended stays as it ended.
     ensures over { is_some client.old.ending ≡ true → client.new.ending ≡ client.old.ending }
-    ensures numbered { NumbersAsks K.Keeps K.opening K.has_failed primary.old primary.new }
+    ensures numbered { NumbersAsks K.model primary.old primary.new }
 {
     if client.ending.is_some() {
         return Ok(());
@@ -165,7 +165,7 @@ fn hear_bytes<S: CheckpointStore, K: Keeper>(
     ensures outcomes { client.new.outcomes ≡ client.old.outcomes }
     ensures counted { AddsCounts client.old.counts (counts_since primary.new.counts primary.old.counts)
         client.new.counts }
-    ensures numbered { NumbersAsks K.Keeps K.opening K.has_failed primary.old primary.new }
+    ensures numbered { NumbersAsks K.model primary.old primary.new }
 {
     let before = primary.counts();
     let taken = take_bytes(bytes, ASKS_BEFORE_FLUSH, &mut client.inbox, primary);
@@ -199,7 +199,7 @@ pub(crate) fn tell_client<S: CheckpointStore, K: Keeper>(
     primary: &Primary<S, K>,
 ) -> Result<(), AllocError>
     requires whole_log { HasWholeLog primary.now }
-    requires kept { K.Keeps primary.now.keeper primary.now.log }
+    requires kept { K.model.Keeps primary.now.keeper primary.now.log }
     requires sound { IsSound (length primary.now.log) client.old }
     ensures sound { OnOk result (IsSound (length primary.now.log) client.new) }
     ensures none_due { OnOk result (client.new.due ≡ 0) }

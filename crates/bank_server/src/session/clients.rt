@@ -167,12 +167,12 @@ impl Clients {
         ensures sent { A.sent arrivals.new ≡ A.sent arrivals.old }
         ensures as_many { length self.new.all ≡ length self.old.all }
         // The whole log is kept, unless nobody was told anything and nobody ended.
-        ensures kept { OnOk result (K.Keeps primary.new.keeper primary.new.log ⊎ (self.new.stirred ≡ [])) }
+        ensures kept { OnOk result (K.model.Keeps primary.new.keeper primary.new.log ⊎ (self.new.stirred ≡ [])) }
         ensures calm { OnOk result (AreCalmBut self.new.stirred self.old.all self.new.all) }
         ensures kept_after_fault { IfErr result (λ fault. IsSettleFault fault
-            → K.Keeps primary.new.keeper primary.new.log) }
+            → K.model.Keeps primary.new.keeper primary.new.log) }
         // What was kept stays kept, and a crew that keeps no job leaves none out, after a fault too.
-        ensures serves { ServesOn K.Keeps K.opening K.has_failed K.fails C.keeps result primary.old primary.new }
+        ensures serves { ServesOn K.model C.keeps result primary.old primary.new }
         ensures fault { IfErr result IsTurnFault }
     {
         self.stirred.clear();
@@ -209,10 +209,10 @@ fn serve_turn<A: Arrivals, S: CheckpointStore, K: Keeper, C: Crew>(
         (A.coming arrivals.new) primary.old.log clients.old primary.new.log clients.new) }
     ensures sent { A.sent arrivals.new ≡ A.sent arrivals.old }
     ensures as_many { length clients.new ≡ length clients.old }
-    ensures kept { OnOk result (K.Keeps primary.new.keeper primary.new.log ⊎ (stirred.new.items ≡ [])) }
+    ensures kept { OnOk result (K.model.Keeps primary.new.keeper primary.new.log ⊎ (stirred.new.items ≡ [])) }
     ensures calm { OnOk result (AreCalmBut stirred.new.items clients.old clients.new) }
     // The bank goes on, after a fault too.
-    ensures serves { ServesOn K.Keeps K.opening K.has_failed K.fails C.keeps result primary.old primary.new }
+    ensures serves { ServesOn K.model C.keeps result primary.old primary.new }
     ensures fault { IfErr result IsTurnFault }
 {
     take_arrivals(arrivals, chunk, clients, stirred, primary)?;

@@ -63,7 +63,7 @@ impl Inbox {
         out: &mut Vec<u8>,
     ) -> Result<(), AllocError>
         requires whole_log { HasWholeLog primary.now }
-        requires kept { K.Keeps primary.now.keeper primary.now.log }
+        requires kept { K.model.Keeps primary.now.keeper primary.now.log }
         requires within { ArePendingWithin (length primary.now.log) self.old.pending.items }
         requires due { self.old.due ≤ length self.old.pending.items }
         ensures within { OnOk result (ArePendingWithin (length primary.now.log) self.new.pending.items) }
@@ -117,7 +117,7 @@ pub(crate) fn take_bytes<S: CheckpointStore, K: Keeper>(
     ensures stops { IfErr result (λ fault. (outcomes : List ℕ) → StopsClient (opening_rows_of primary.old) most
         (inbox_state primary.old.log inbox.old outcomes) (inbox.old.stream.unread ++ bytes.now) fault
         (inbox_state primary.new.log inbox.new outcomes)) }
-    ensures numbered { NumbersAsks K.Keeps K.opening K.has_failed primary.old primary.new }
+    ensures numbered { NumbersAsks K.model primary.old primary.new }
 {
     if inbox.stream.feed(bytes).is_err() {
         // It hadn't failed.
@@ -147,7 +147,7 @@ fn take_frames<S: CheckpointStore, K: Keeper>(
     ensures stops { IfErr result (λ fault. (outcomes : List ℕ) → StopsClient (opening_rows_of primary.old) most
         (inbox_state primary.old.log inbox.old outcomes) inbox.old.stream.unread fault
         (inbox_state primary.new.log inbox.new outcomes)) }
-    ensures numbered { NumbersAsks K.Keeps K.opening K.has_failed primary.old primary.new }
+    ensures numbered { NumbersAsks K.model primary.old primary.new }
 {
     loop {
         match inbox.stream.next() {
@@ -179,7 +179,7 @@ fn take_frame<S: CheckpointStore, K: Keeper>(
     ensures refused { IfErr result (λ fault. (outcomes : List ℕ) → RefusesClientFrame most frame.now fault
         (inbox_state primary.old.log inbox.old outcomes) (inbox_state primary.new.log inbox.new outcomes)) }
     ensures stream { inbox.new.stream ≡ inbox.old.stream }
-    ensures numbered { NumbersAsks K.Keeps K.opening K.has_failed primary.old primary.new }
+    ensures numbered { NumbersAsks K.model primary.old primary.new }
 {
     match frame {
         Frame::Ask {
@@ -219,7 +219,7 @@ fn number_ask<S: CheckpointStore, K: Keeper>(
         (record { log = primary.old.log; pending = pending.old.items; due = due; outcomes = outcomes })
         (frames.Ask key.client key.request call.now ∷ [])
         (record { log = primary.new.log; pending = pending.new.items; due = due; outcomes = outcomes })) }
-    ensures numbered { NumbersAsks K.Keeps K.opening K.has_failed primary.old primary.new }
+    ensures numbered { NumbersAsks K.model primary.old primary.new }
     ensures unchanged { OnErr result ((primary.new.log ≡ primary.old.log) × (pending.new.items ≡ pending.old.items)) }
     ensures fault { IfErr result (λ fault. fault ≡ faults.OutOfMemory) }
 {

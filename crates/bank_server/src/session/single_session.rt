@@ -63,11 +63,11 @@ pub fn serve_session<R: Read, W: Write, S: CheckpointStore, K: Keeper, C: Crew>(
         ServesUntilFault (opening_rows_of primary.old) primary.old.log primary.new.log (W.contents writer.old)
         (W.contents writer.new) input fault)) }
     // The whole log is kept, also after a fault of the client.
-    ensures kept { OnOk result (K.Keeps primary.new.keeper primary.new.log) }
+    ensures kept { OnOk result (K.model.Keeps primary.new.keeper primary.new.log) }
     ensures kept_after_fault { IfErr result (λ fault. IsClientFault fault
-        → K.Keeps primary.new.keeper primary.new.log) }
+        → K.model.Keeps primary.new.keeper primary.new.log) }
     // What was kept stays kept, and a crew that keeps no job leaves none out, after a fault too.
-    ensures serves { ServesOn K.Keeps K.opening K.has_failed K.fails C.keeps result primary.old primary.new }
+    ensures serves { ServesOn K.model C.keeps result primary.old primary.new }
 {
     let served = serve_frames(alloc, reader, writer, primary, crew);
     // What was numbered is kept, whatever ended the session.
@@ -90,7 +90,7 @@ fn serve_frames<R: Read, W: Write, S: CheckpointStore, K: Keeper, C: Crew>(
         ServesUntilFault (opening_rows_of primary.old) primary.old.log primary.new.log (W.contents writer.old)
         (W.contents writer.new) input fault)) }
     // The bank goes on, after a fault too.
-    ensures serves { ServesOn K.Keeps K.opening K.has_failed K.fails C.keeps result primary.old primary.new }
+    ensures serves { ServesOn K.model C.keeps result primary.old primary.new }
 {
     primary.settle(crew)?;
     let mut inbox = Inbox::new(alloc);
@@ -142,7 +142,7 @@ fn serve_bytes<W: Write, S: CheckpointStore, K: Keeper, C: Crew>(
         (session_state primary.old.log inbox.old (W.contents writer.old)) inbox.old.stream.unread bytes.now fault
         (session_state primary.new.log inbox.new (W.contents writer.new))) }
     // The bank goes on, after a fault too.
-    ensures serves { ServesOn K.Keeps K.opening K.has_failed K.fails C.keeps result primary.old primary.new }
+    ensures serves { ServesOn K.model C.keeps result primary.old primary.new }
 {
     let taken = take_bytes(bytes, ASKS_OF_SESSION, inbox, primary);
     write_due(inbox, outcomes, writer, primary, crew)?;
@@ -170,7 +170,7 @@ fn write_due<W: Write, S: CheckpointStore, K: Keeper, C: Crew>(
     ensures log { primary.new.log ≡ primary.old.log }
     ensures fault { IfErr result IsFlushFault }
     // The bank goes on, after a fault too.
-    ensures serves { ServesOn K.Keeps K.opening K.has_failed K.fails C.keeps result primary.old primary.new }
+    ensures serves { ServesOn K.model C.keeps result primary.old primary.new }
 {
     if inbox.due == 0 {
         return Ok(());
@@ -195,7 +195,7 @@ fn end<S: CheckpointStore, K: Keeper, C: Crew>(
     ensures log { primary.new.log ≡ primary.old.log }
     ensures fault { IfErr result (IsEndFault inbox.now.stream) }
     // The bank goes on, after a fault too.
-    ensures serves { ServesOn K.Keeps K.opening K.has_failed K.fails C.keeps result primary.old primary.new }
+    ensures serves { ServesOn K.model C.keeps result primary.old primary.new }
 {
     if !inbox.stream.ended() {
         return Err(SessionFault::Frame(FrameFault::Short));

@@ -20,10 +20,10 @@ pub(crate) fn settle_and_keep<S: CheckpointStore, K: Keeper, C: Crew>(
     crew: &mut C,
 ) -> Result<(), SessionFault>
     ensures whole_log { OnOk result (HasWholeLog primary.new) }
-    ensures kept { OnOk result (K.Keeps primary.new.keeper primary.new.log) }
+    ensures kept { OnOk result (K.model.Keeps primary.new.keeper primary.new.log) }
     ensures log { primary.new.log ≡ primary.old.log }
     // The bank goes on, after a fault too.
-    ensures serves { ServesOn K.Keeps K.opening K.has_failed K.fails C.keeps result primary.old primary.new }
+    ensures serves { ServesOn K.model C.keeps result primary.old primary.new }
     ensures fault { IfErr result IsTurnFault }
 {
     primary.settle(crew)?;
@@ -37,7 +37,7 @@ pub(crate) fn tell_outcomes<W: Write, S: CheckpointStore, K: Keeper>(
     outcomes: &[u8],
     _primary: &Primary<S, K>,
 ) -> io::Result<()>
-    requires { K.Keeps _primary.now.keeper _primary.now.log }
+    requires { K.model.Keeps _primary.now.keeper _primary.now.log }
     ensures { OnOk result (Appends (W.contents writer.old) (W.contents writer.new) outcomes.now) }
 {
     write_whole(writer, outcomes)

@@ -34,7 +34,7 @@ pub(crate) fn take_arrivals<A: Arrivals, S: CheckpointStore, K: Keeper>(
     ensures calm { OnOk result (AreCalmBut stirred.new.items clients.old clients.new) }
     ensures sent { A.sent arrivals.new ≡ A.sent arrivals.old }
     ensures as_many { length clients.new ≡ length clients.old }
-    ensures numbered { NumbersAsks K.Keeps K.opening K.has_failed primary.old primary.new }
+    ensures numbered { NumbersAsks K.model primary.old primary.new }
 {
     for _ in 0..clients.len() {
         let Some(arrival) = arrivals.next(chunk) else {
@@ -63,7 +63,7 @@ fn take_arrival<S: CheckpointStore, K: Keeper>(
     ensures calm { OnOk result ((first : List ClientOf) → AreCalmBut stirred.old.items first clients.old
         → AreCalmBut stirred.new.items first clients.new) }
     ensures as_many { length clients.new ≡ length clients.old }
-    ensures numbered { NumbersAsks K.Keeps K.opening K.has_failed primary.old primary.new }
+    ensures numbered { NumbersAsks K.model primary.old primary.new }
 {
     if arrival.client >= clients.len() {
         return Ok(());
@@ -92,7 +92,7 @@ fn stir<S: CheckpointStore, K: Keeper>(
     ensures calm { IfOk result (λ stirred. stirred ≡ false
         → (client.new.ending ≡ client.old.ending) × (client.new.due ≡ 0)) }
     ensures outcomes { client.new.outcomes ≡ client.old.outcomes }
-    ensures numbered { NumbersAsks K.Keeps K.opening K.has_failed primary.old primary.new }
+    ensures numbered { NumbersAsks K.model primary.old primary.new }
 {
     let was_over = client.has_ended();
     hear(chunk, read, client, primary)?;
@@ -108,7 +108,7 @@ pub(crate) fn tell_all<S: CheckpointStore, K: Keeper>(
     primary: &Primary<S, K>,
 ) -> Result<(), AllocError>
     requires whole_log { HasWholeLog primary.now }
-    requires kept { K.Keeps primary.now.keeper primary.now.log }
+    requires kept { K.model.Keeps primary.now.keeper primary.now.log }
     requires there { All (λ k. k < length clients.old) stirred.now }
     requires due { AreDueWithin stirred.now clients.old }
     requires sound { All (λ client. IsSound (length primary.now.log) client) clients.old }

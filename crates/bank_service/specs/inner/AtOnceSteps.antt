@@ -2,6 +2,7 @@
 use Rattle.std.specs.Prelude.{◌≡◌, ℕ, Bool, Option, List, [], ◌∷◌, length}
 use Rattle.std.specs.List.{All}
 use Rattle.sb_checkpoint.specs.Stores.{StoreModel}
+use Rattle.sb_ask_log.specs.Keeping.{KeeperModel}
 use Rattle.bank_server.specs.Clients.{ClientOf, End}
 use Rattle.bank_server.specs.Primary.{PrimaryOf, opening_rows_of}
 use Rattle.bank_clients.specs.History.{GoesOn, OutsideOf}
@@ -11,24 +12,24 @@ use Rattle.bank_service.specs.StoreAfter.{IsStoreAfter}
 
 -- a bank goes on, and is the same: with its names, its opening, its log's file, and its store, unless it
 -- saves
-pub record StaysBank {S K : Type 0} (model : StoreModel S) (text_of : K → Option (List ℕ)) (saves : Bool)
+pub record StaysBank {S K : Type 0} (model : StoreModel S) (keeper : KeeperModel K) (saves : Bool)
     (before after : PrimaryOf S K) : Type 0 where
   pub bank : IsSameBank before after
-  pub text : text_of after.keeper ≡ text_of before.keeper
+  pub text : keeper.opening after.keeper ≡ keeper.opening before.keeper
   pub store : IsStoreAfter model saves 0 before.node.store after.node
 
 -- clients are served at once until one more session is over, which has this number, and is printed
-pub record ServesOver {S K : Type 0} (model : StoreModel S) (text_of : K → Option (List ℕ)) (saves : Bool)
+pub record ServesOver {S K : Type 0} (model : StoreModel S) (keeper : KeeperModel K) (saves : Bool)
     (number : ℕ) (outside outside_after : OutsideOf) (clients clients_after : List ClientOf)
     (before after : PrimaryOf S K) (old new : Option (List ℕ)) : Type 0 where
   pub goes_on : GoesOn (opening_rows_of before) outside before.log clients outside_after after.log clients_after
   pub end : End
   pub continues : ServerContinues end
   pub printed : PrintsLines (session_line number end ∷ []) old new
-  pub stays : StaysBank model text_of saves before after
+  pub stays : StaysBank model keeper saves before after
 
 -- clients are served at once until this many sessions are over, and each is printed
-pub record ServesSome {S K : Type 0} (model : StoreModel S) (text_of : K → Option (List ℕ)) (saves : Bool)
+pub record ServesSome {S K : Type 0} (model : StoreModel S) (keeper : KeeperModel K) (saves : Bool)
     (count : ℕ) (outside outside_after : OutsideOf) (clients clients_after : List ClientOf)
     (before after : PrimaryOf S K) (old new : Option (List ℕ)) : Type 0 where
   pub goes_on : GoesOn (opening_rows_of before) outside before.log clients outside_after after.log clients_after
@@ -36,4 +37,4 @@ pub record ServesSome {S K : Type 0} (model : StoreModel S) (text_of : K → Opt
   pub all : length ends ≡ count
   pub go_on : All ServerContinues ends
   pub printed : PrintsLines (session_lines 1 ends) old new
-  pub stays : StaysBank model text_of saves before after
+  pub stays : StaysBank model keeper saves before after

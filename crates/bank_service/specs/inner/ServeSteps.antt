@@ -5,6 +5,7 @@ use Rattle.std.specs.declared.net.ip_addr.IpAddr.{IpAddr}
 use Rattle.sb_rows.specs.Rows.{Rows}
 use Rattle.sb_calls.specs.declared.ask.Key.{Key}
 use Rattle.sb_calls.specs.declared.call.Call.{Call}
+use Rattle.sb_ask_log.specs.Keeping.{KeeperModel}
 use Rattle.bank_server.specs.Primary.{PrimaryOf}
 use Rattle.bank_server.specs.Clients.{End}
 use Rattle.bank_service.specs.Sessions.{ListenerClients, ServesFirst}
@@ -33,9 +34,8 @@ module _ {R W : Type 0} (sends : R → Option (List ℕ)) (gets : W → Option (
     pub printed : PrintsLines (session_lines 1 ends) old new
 
 -- the line of the bank's log is printed, if its keeper has a file
-abbrev pub PrintsLog : {S K : Type 0} → (K → Option (List ℕ)) → PrimaryOf S K → Option (List ℕ) → Option (List ℕ)
-    → Type 0
-PrintsLog opening primary old new = PrintsLines (log_lines (opening primary.keeper) primary.log) old new
+abbrev pub PrintsLog : {S K : Type 0} → KeeperModel K → PrimaryOf S K → Option (List ℕ) → Option (List ℕ) → Type 0
+PrintsLog keeper primary old new = PrintsLines (log_lines (keeper.opening primary.keeper) primary.log) old new
 
 -- these lines are printed, for the log and the opening of the bank
 abbrev pub PrintsRows : {S K : Type 0} → PrimaryOf S K → Option (List ℕ) → Option (List ℕ) → Type 0

@@ -1,4 +1,4 @@
-use Rattle.std.proofs.Common.{◌≡◌, ◌++◌, ◌∷◌, [], ℕ, Bool, Option, List, sym, ap, subst, ◌∙◌}
+use Rattle.std.proofs.Common.{◌≡◌, ◌++◌, ◌∷◌, [], ℕ, List, sym, ap, subst, ◌∙◌}
 use Rattle.std.specs.Prelude.{Result, Ok, Err, codes, drop, map}
 use Rattle.std.proofs.lemmas.Grind.{flat_map-append}
 use Rattle.sb_rows.specs.Balances.{Balances}
@@ -12,6 +12,7 @@ use Rattle.sb_calls.specs.declared.ask.Key.{Key}
 use Rattle.sb_calls.specs.declared.call.Call.{Call}
 use Rattle.sb_sequencer.specs.Numbering.{calls_of}
 use Rattle.sb_replica.specs.Replica.{ReplicaOf, RestOf}
+use Rattle.sb_ask_log.specs.Keeping.{KeeperModel}
 use Rattle.bank_server.specs.Input.{in_opening}
 use Rattle.bank_server.proofs.boards.WholeReplies.{after_ok}
 use Rattle.bank_server.specs.Primary.{PrimaryOf, PreservesBank}
@@ -31,10 +32,10 @@ opening_if_whole (Ok found) rest opening is = ap Ok (nothing_behind found (rest 
 opening_if_whole (Err fault) rest opening is = cc
 
 -- the bank that has this log over this opening has the rows after it
-rows_after_log : {S K : Type 0} {keeps : K → List (Key × Call) → Type 0} {text_of : K → Option (List ℕ)} {has_failed : K → Bool}
+rows_after_log : {S K : Type 0} {model : KeeperModel K}
     (text : List ℕ) (opening : OpeningText) (log : List (Key × Call)) (old new : PrimaryOf S K) (after : Balances)
     → opening_of text ≡ Ok opening → old.log ≡ log → old.node.names ≡ opening.names → old.node.board.opening ≡ opening.balances
-    → new.log ≡ old.log → PreservesBank keeps text_of has_failed old new
+    → new.log ≡ old.log → PreservesBank model old new
     → SameCustomers new.node.names after × (rows_of new.node.names after ≡ rows_after (calls_of new.log) (rows_of new.node.names new.node.board.opening))
     → AreRowsAfter text log new.node.names after
 rows_after_log text opening log old new after read log_is names_are balances_are same_log bank rows = record {

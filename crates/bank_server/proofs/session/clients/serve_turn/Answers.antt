@@ -82,7 +82,7 @@ returns-clause-served g c =
     let mid = c.take_arrivals.new in
     let new = c.settle_and_keep.new.primary in
     let told = c.in_ok-tell_all.ensures in
-    let bank : PreservesBank g.K.Keeper.Keeps g.K.Keeper.opening g.K.Keeper.has_failed old new =
+    let bank : PreservesBank g.K.Keeper.model old new =
     keeps_on old mid.primary new c.take_arrivals.ensures.numbered.bank c.settle_and_keep.ensures.serves.bank in
     let turn : ServesTurn (IsServing opening) (g.A.Arrivals.coming c.args.arrivals.now) (g.A.Arrivals.coming mid.arrivals) old.log c.args.clients.now
     new.log mid.clients =

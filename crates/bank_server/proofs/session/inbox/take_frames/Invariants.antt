@@ -14,7 +14,7 @@ invariant-loop-frame g l = record {
   due : l.inbox.due ≤ length l.inbox.pending.items;
   few : length l.inbox.pending.items ≤ l.inbox.due + l.fn.most;
   going : l.inbox.stream.failed ≡ false;
-  numbered : NumbersAsks g.K.Keeper.Keeps g.K.Keeper.opening g.K.Keeper.has_failed l.fn.primary l.primary;
+  numbered : NumbersAsks g.K.Keeper.model l.fn.primary l.primary;
 }
 
 abbrev pub decreases-loop-frame : goal.decreases-loop-frame

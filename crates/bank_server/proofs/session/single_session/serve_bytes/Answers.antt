@@ -94,7 +94,7 @@ returns-in_err-taken-clause-serves g c =
       bank = step.bank;
       none_out = step.none_out;
       crew_lost = rw (p.1, p.2) (crew_stays g.C.Crew.keeps old.node.board ASKS_OF_SESSION fault _ stops.of_frames);
-      log_lost = rw (p.1, p.2) (log_stays g.K.Keeper.fails (g.K.Keeper.has_failed due.keeper) ASKS_OF_SESSION fault _ stops.of_frames);
+      log_lost = rw (p.1, p.2) (log_stays g.K.Keeper.model.fails (g.K.Keeper.model.has_failed due.keeper) ASKS_OF_SESSION fault _ stops.of_frames);
     }
 
 pub returns-clause-serves : goal.returns-clause-serves

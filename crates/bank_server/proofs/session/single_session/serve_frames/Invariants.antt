@@ -19,6 +19,6 @@ invariant-loop g l = record {
   within : ArePendingWithin (length l.primary.log) l.inbox.pending.items;
   none_due : l.inbox.due ≡ 0;
   few : length l.inbox.pending.items ≤ ASKS_OF_SESSION;
-  bank : PreservesBank g.K.Keeper.Keeps g.K.Keeper.opening g.K.Keeper.has_failed l.fn.primary l.primary;
+  bank : PreservesBank g.K.Keeper.model l.fn.primary l.primary;
   none_out : g.C.Crew.keeps ≡ false → HasNoneOut l.fn.primary.node.board → HasNoneOut l.primary.node.board;
 }

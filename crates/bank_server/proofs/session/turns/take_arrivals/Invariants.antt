@@ -15,5 +15,5 @@ invariant-loop g l = record {
   calm : AreCalmBut l.stirred.items l.fn.clients l.clients;
   sent : g.A.Arrivals.sent l.arrivals ≡ g.A.Arrivals.sent l.fn.arrivals;
   as_many : length l.clients ≡ length l.fn.clients;
-  numbered : NumbersAsks g.K.Keeper.Keeps g.K.Keeper.opening g.K.Keeper.has_failed l.fn.primary l.primary;
+  numbered : NumbersAsks g.K.Keeper.model l.fn.primary l.primary;
 }

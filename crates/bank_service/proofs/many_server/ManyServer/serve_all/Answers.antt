@@ -7,7 +7,7 @@ use Rattle.bank_service.proofs.many_server.ManyServer.serve_all.Goals as goal
 
 pub loop-before-init : goal.loop-before-init
 loop-before-init g c = record {
-  some = some_at_first g.S.CheckpointStore.model g.K.Keeper.Keeps g.K.Keeper.opening c.args.self.now.plan.saves
+  some = some_at_first g.S.CheckpointStore.model g.K.Keeper.model c.args.self.now.plan.saves
       (outside_of g.A.Arrivals.coming g.A.Arrivals.sent c.args.self.now.sessions.connections) c.args.self.now.sessions.clients.all c.args.self.now.primary
       (g.W.Write.contents c.args.self.now.writer);
   within = omega arith;
@@ -21,17 +21,17 @@ pub loop-before-preserved : goal.loop-before-preserved
 loop-before-preserved g c =
     let outside = outside_of g.A.Arrivals.coming g.A.Arrivals.sent in
     let model = g.S.CheckpointStore.model in
-    let text_of = g.K.Keeper.opening in
+    let keeper = g.K.Keeper.model in
     let kept = c.loop-before.invariant in
     let next = c.in_ok-serve_next.ensures in
     let old = c.args.self.now in
     let mid = c.loop-before.self in
     let new = c.serve_next.new.self in
     record {
-      some = some_then_over model g.K.Keeper.Keeps text_of old.plan.saves c.loop-before.before (outside old.sessions.connections)
+      some = some_then_over model keeper old.plan.saves c.loop-before.before (outside old.sessions.connections)
           (outside mid.sessions.connections) (outside new.sessions.connections) old.sessions.clients.all mid.sessions.clients.all new.sessions.clients.all
           old.primary mid.primary new.primary (g.W.Write.contents old.writer) (g.W.Write.contents mid.writer) (g.W.Write.contents new.writer) kept.some
-          (subst (λ (plan : Plan). ServesOver model text_of plan.saves (c.loop-before.before + 1) (outside mid.sessions.connections)
+          (subst (λ (plan : Plan). ServesOver model keeper plan.saves (c.loop-before.before + 1) (outside mid.sessions.connections)
           (outside new.sessions.connections) mid.sessions.clients.all new.sessions.clients.all mid.primary new.primary
           (g.W.Write.contents mid.writer) (g.W.Write.contents new.writer)) kept.plan next.served);
       within = omega (arith, c.loop-before-test.true);

@@ -8,7 +8,7 @@ use Rattle.bank_service.proofs.many_server.ManyServer.serve_all.Given as goal
 -- so many sessions are over
 abbrev pub invariant-loop-before : goal.invariant-loop-before
 invariant-loop-before g l = record {
-  some : ServesSome g.S.CheckpointStore.model g.K.Keeper.opening l.fn.self.plan.saves l.before
+  some : ServesSome g.S.CheckpointStore.model g.K.Keeper.model l.fn.self.plan.saves l.before
       (outside_of g.A.Arrivals.coming g.A.Arrivals.sent l.fn.self.sessions.connections)
       (outside_of g.A.Arrivals.coming g.A.Arrivals.sent l.self.sessions.connections)
       l.fn.self.sessions.clients.all l.self.sessions.clients.all l.fn.self.primary l.self.primary

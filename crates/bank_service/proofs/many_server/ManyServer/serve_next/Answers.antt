@@ -17,7 +17,7 @@ use Rattle.bank_service.proofs.many_server.ManyServer.serve_next.Goals as goal
 
 pub loop-init : goal.loop-init
 loop-init g c =
-    let start = rounds_at_first g.S.CheckpointStore.model g.K.Keeper.Keeps g.K.Keeper.opening c.args.self.now.plan.saves
+    let start = rounds_at_first g.S.CheckpointStore.model g.K.Keeper.model c.args.self.now.plan.saves
     (outside_of g.A.Arrivals.coming g.A.Arrivals.sent c.args.self.now.sessions.connections) c.args.self.now.sessions.clients.all c.args.self.now.primary in
     record {
       goes_on = start.0;
@@ -34,7 +34,7 @@ end_session-requires g c =
     let outside = outside_of g.A.Arrivals.coming g.A.Arrivals.sent in
     let kept = c.loop.invariant in
     let over = c.in-Some-next_over.over in
-    let (h, served) = still_begun g.S.CheckpointStore.model g.K.Keeper.Keeps g.K.Keeper.opening (outside c.args.self.now.sessions.connections)
+    let (h, served) = still_begun g.S.CheckpointStore.model g.K.Keeper.model (outside c.args.self.now.sessions.connections)
     (outside c.loop.self.sessions.connections) c.args.self.now.sessions.clients.all c.loop.self.sessions.clients.all c.args.self.now.primary
     c.loop.self.primary kept.goes_on kept.stays.bank c.requires.begun in
     record {
@@ -46,23 +46,22 @@ pub returns-in-Some-next_over-clause-served : goal.returns-in-Some-next_over-cla
 returns-in-Some-next_over-clause-served g c =
     let outside = outside_of g.A.Arrivals.coming g.A.Arrivals.sent in
     let model = g.S.CheckpointStore.model in
-    let keeps = g.K.Keeper.Keeps in
-    let text_of = g.K.Keeper.opening in
+    let keeper = g.K.Keeper.model in
     let kept = c.loop.invariant in
     let over = c.in-Some-next_over.over in
     let old = c.args.self.now in
     let mid = c.loop.self in
     let new = c.end_session.new.self in
     let same = c.next_over.ensures.unchanged in
-    let (h, served) = still_begun model keeps text_of (outside old.sessions.connections) (outside mid.sessions.connections) old.sessions.clients.all
+    let (h, served) = still_begun model keeper (outside old.sessions.connections) (outside mid.sessions.connections) old.sessions.clients.all
     mid.sessions.clients.all old.primary mid.primary kept.goes_on kept.stays.bank c.requires.begun in
     let continues : ServerContinues over.ending = over_continues (opening_rows_of mid.primary) h mid.primary.log mid.sessions.clients.all over.place
     over.ending served c.in-Some-next_over.ensures.there c.in-Some-next_over.ensures.over in
-    if_both c.end_session.result (λ printed after. over_behind model keeps text_of old.plan.saves c.args.number (outside old.sessions.connections)
+    if_both c.end_session.result (λ printed after. over_behind model keeper old.plan.saves c.args.number (outside old.sessions.connections)
     (outside mid.sessions.connections) (outside new.sessions.connections) old.sessions.clients.all mid.sessions.clients.all new.sessions.clients.all
     old.primary mid.primary new.primary (g.W.Write.contents old.writer) (g.W.Write.contents mid.writer) (g.W.Write.contents new.writer) over.ending
     kept.goes_on kept.stays kept.writer continues printed
-    (subst (λ (plan : Plan). IsBankAfter model keeps text_of plan.saves 1 mid.primary new.primary) kept.plan after) c.end_session.ensures.log
+    (subst (λ (plan : Plan). IsBankAfter model keeper plan.saves 1 mid.primary new.primary) kept.plan after) c.end_session.ensures.log
     (ap (λ (x : ClientsOf). x.all) (c.end_session.ensures.clients ∙ ap (λ (s : SessionsOf g.row.A.Denot). s.clients) same))
     (c.end_session.ensures.outside ∙ ap (λ (s : SessionsOf g.row.A.Denot). outside s.connections) same)) c.end_session.ensures.printed
     c.end_session.ensures.bank_after
@@ -75,8 +74,8 @@ pub returns-in-Some-next_over-clause-fault : goal.returns-in-Some-next_over-clau
 returns-in-Some-next_over-clause-fault g c =
     let kept = c.loop.invariant in
     if_err c.end_session.result (λ fault is. subst (λ (plan : Plan).
-    IsFinishFault (g.C.Crew.keeps ≡ false → ¬ HasNoneOut c.args.self.now.primary.node.board) plan.saves g.K.Keeper.fails fault) kept.plan
-    (finish_fault_if c.loop.self.plan.saves g.K.Keeper.fails fault (λ gone e none. gone e (kept.none_out e none)) is)) c.end_session.ensures.fault
+    IsFinishFault (g.C.Crew.keeps ≡ false → ¬ HasNoneOut c.args.self.now.primary.node.board) plan.saves g.K.Keeper.model.fails fault) kept.plan
+    (finish_fault_if c.loop.self.plan.saves g.K.Keeper.model.fails fault (λ gone e none. gone e (kept.none_out e none)) is)) c.end_session.ensures.fault
 
 pub loop-preserved : goal.loop-preserved
 loop-preserved g c =
@@ -89,7 +88,7 @@ loop-preserved g c =
     (outside new.sessions.connections) new.primary.log new.sessions.clients.all =
     subst (λ (s : SessionsOf g.row.A.Denot). GoesOn (opening_rows_of mid.primary) (outside s.connections) mid.primary.log s.clients.all
     (outside new.sessions.connections) new.primary.log new.sessions.clients.all) c.next_over.ensures.unchanged c.in_ok-serve_round.ensures.goes_on in
-    let both = rounds_then g.S.CheckpointStore.model g.K.Keeper.Keeps g.K.Keeper.opening g.K.Keeper.has_failed old.plan.saves
+    let both = rounds_then g.S.CheckpointStore.model g.K.Keeper.model old.plan.saves
     (outside old.sessions.connections) (outside mid.sessions.connections) (outside new.sessions.connections) old.sessions.clients.all
     mid.sessions.clients.all new.sessions.clients.all old.primary mid.primary new.primary kept.goes_on kept.stays round c.serve_round.ensures.bank in
     record {
@@ -108,5 +107,5 @@ returns-in_err-serve_round-clause-fault g c =
     let kept = c.loop.invariant in
     let fault = c.in_err-serve_round.field-0.0 in
     rw (p.1, p.2) (subst (λ (plan : Plan). IsFinishFault (g.C.Crew.keeps ≡ false → ¬ HasNoneOut c.args.self.now.primary.node.board) plan.saves
-    g.K.Keeper.fails fault) kept.plan (finish_fault_if c.loop.self.plan.saves g.K.Keeper.fails fault (λ gone e none. gone e (kept.none_out e none))
+    g.K.Keeper.model.fails fault) kept.plan (finish_fault_if c.loop.self.plan.saves g.K.Keeper.model.fails fault (λ gone e none. gone e (kept.none_out e none))
     c.in_err-serve_round.ensures.fault))

@@ -13,7 +13,7 @@ invariant-loop g l = record {
   goes_on : GoesOn (opening_rows_of l.fn.self.primary) (outside_of g.A.Arrivals.coming g.A.Arrivals.sent l.fn.self.sessions.connections)
       l.fn.self.primary.log l.fn.self.sessions.clients.all (outside_of g.A.Arrivals.coming g.A.Arrivals.sent l.self.sessions.connections)
       l.self.primary.log l.self.sessions.clients.all;
-  stays : StaysBank g.S.CheckpointStore.model g.K.Keeper.opening l.fn.self.plan.saves l.fn.self.primary l.self.primary;
+  stays : StaysBank g.S.CheckpointStore.model g.K.Keeper.model l.fn.self.plan.saves l.fn.self.primary l.self.primary;
   ready : All (λ client. IsReady (length l.self.primary.log) client) l.self.sessions.clients.all;
   none_out : g.C.Crew.keeps ≡ false → HasNoneOut l.fn.self.primary.node.board → HasNoneOut l.self.primary.node.board;
   writer : g.W.Write.contents l.self.writer ≡ g.W.Write.contents l.fn.self.writer;

@@ -15,18 +15,17 @@ pub returns-clause-served : goal.returns-clause-served
 returns-clause-served g c =
     let outside = outside_of g.A.Arrivals.coming g.A.Arrivals.sent in
     let model = g.S.CheckpointStore.model in
-    let keeps = g.K.Keeper.Keeps in
-    let text_of = g.K.Keeper.opening in
+    let keeper = g.K.Keeper.model in
     let contents = g.W.Write.contents in
     let first = c.args.self.now in
     let opened = c.finish_session.new.primary in
     let served = c.serve_all.new.self in
     let last = c.finish_session-2.new.primary in
-    on_ok_weaker c.print_rows.result (λ rows. serves_at_once model keeps text_of first.plan first.port (outside first.sessions.connections)
+    on_ok_weaker c.print_rows.result (λ rows. serves_at_once model keeper first.plan first.port (outside first.sessions.connections)
     (outside served.sessions.connections) first.sessions.clients.all served.sessions.clients.all first.primary opened served.primary last
     (contents first.writer) (contents c.print_log.new.writer) (contents c.print_port_number.new.writer) (contents served.writer)
     (contents c.print_log-2.new.writer) (contents c.print_rows.new.writer) c.in_ok-finish_session.ensures.bank_after c.finish_session.ensures.log
     c.in_ok-print_log.ensures.printed c.in_ok-print_port_number.ensures.printed c.in_ok-serve_all.ensures.served
-    (subst (λ (plan : Plan). IsBankAfter model keeps text_of plan.saves 1 served.primary last) c.serve_all.ensures.plan
+    (subst (λ (plan : Plan). IsBankAfter model keeper plan.saves 1 served.primary last) c.serve_all.ensures.plan
     c.in_ok-finish_session-2.ensures.bank_after) c.finish_session-2.ensures.log c.in_ok-print_log-2.ensures.printed rows)
     c.print_rows.ensures.printed

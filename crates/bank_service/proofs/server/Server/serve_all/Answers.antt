@@ -18,7 +18,7 @@ loop-before-init g c = record {
       (g.D.ClientListener.clients c.args.self.now.listener) c.args.self.now.primary.log
       (g.W.Write.contents c.args.self.now.writer);
   within = omega arith;
-  left = left_at_first g.S.CheckpointStore.model g.K.Keeper.Keeps g.K.Keeper.opening c.args.self.now.plan.saves c.args.self.now.primary c.requires.one_each
+  left = left_at_first g.S.CheckpointStore.model g.K.Keeper.model c.args.self.now.plan.saves c.args.self.now.primary c.requires.one_each
       c.requires.whole_log c.requires.kept;
   plan = refl;
   nodes = refl;
@@ -40,11 +40,11 @@ loop-before-preserved g c =
           (g.W.Write.contents c.loop-before.self.writer) (g.W.Write.contents c.serve_next.new.self.writer))
           (same_rows c.args.self.now.primary c.loop-before.self.primary kept.left.bank) next.served);
       within = omega (arith, c.loop-before-test.true);
-      left = left_after_next g.S.CheckpointStore.model g.K.Keeper.Keeps g.K.Keeper.opening c.args.self.now.plan.saves c.loop-before.before
+      left = left_after_next g.S.CheckpointStore.model g.K.Keeper.model c.args.self.now.plan.saves c.loop-before.before
           c.args.self.now.primary
           c.loop-before.self.primary c.serve_next.new.self.primary kept.left
           (subst (λ (plan : Plan).
-          IsBankAfter g.S.CheckpointStore.model g.K.Keeper.Keeps g.K.Keeper.opening plan.saves 1 c.loop-before.self.primary c.serve_next.new.self.primary)
+          IsBankAfter g.S.CheckpointStore.model g.K.Keeper.model plan.saves 1 c.loop-before.self.primary c.serve_next.new.self.primary)
           kept.plan next.bank_after);
       plan = c.serve_next.ensures.plan ∙ kept.plan;
       nodes = c.serve_next.ensures.nodes ∙ kept.nodes;
@@ -56,6 +56,6 @@ returns-in_err-serve_next-clause-fault g c =
     let kept = c.loop-before.invariant in
     let board = c.loop-before.self.primary.node.board in
     let fault = c.in_err-serve_next.field-0.0 in
-    rw (p.1, p.2) (subst (λ (plan : Plan). IsFinishFault (g.C.Crew.keeps ≡ true) plan.saves g.K.Keeper.fails fault) kept.plan
-    (finish_fault_if c.loop-before.self.plan.saves g.K.Keeper.fails fault (keeps_if g.C.Crew.keeps board (idle_none_out board kept.left.all.idle))
+    rw (p.1, p.2) (subst (λ (plan : Plan). IsFinishFault (g.C.Crew.keeps ≡ true) plan.saves g.K.Keeper.model.fails fault) kept.plan
+    (finish_fault_if c.loop-before.self.plan.saves g.K.Keeper.model.fails fault (keeps_if g.C.Crew.keeps board (idle_none_out board kept.left.all.idle))
     c.in_err-serve_next.ensures.fault))

@@ -11,7 +11,7 @@ invariant-loop-before g l = record {
       (g.D.ClientListener.clients l.fn.self.listener) (g.D.ClientListener.clients l.self.listener)
       l.fn.self.primary.log l.self.primary.log (g.W.Write.contents l.fn.self.writer) (g.W.Write.contents l.self.writer);
   within : l.before ≤ l.fn.self.plan.sessions;
-  left : IsBankAfter g.S.CheckpointStore.model g.K.Keeper.Keeps g.K.Keeper.opening l.fn.self.plan.saves l.before l.fn.self.primary l.self.primary;
+  left : IsBankAfter g.S.CheckpointStore.model g.K.Keeper.model l.fn.self.plan.saves l.before l.fn.self.primary l.self.primary;
   plan : l.self.plan ≡ l.fn.self.plan;
   nodes : l.followers.nodes ≡ l.fn.followers.nodes;
 }

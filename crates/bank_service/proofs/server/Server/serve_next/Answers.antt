@@ -22,5 +22,5 @@ returns-clause-served g c =
 pub returns-in_err-finish_session-clause-fault : goal.returns-in_err-finish_session-clause-fault
 returns-in_err-finish_session-clause-fault g c =
     let p = err_from_is_err_and c.from_residual-in_err-finish_session.result c.from_residual-in_err-finish_session.ensures.1 in
-    rw (p.1, p.2) (finish_fault_if c.args.self.now.plan.saves g.K.Keeper.fails c.in_err-finish_session.field-0.0
+    rw (p.1, p.2) (finish_fault_if c.args.self.now.plan.saves g.K.Keeper.model.fails c.in_err-finish_session.field-0.0
     (λ gone e none. gone e (c.serve_client-served.ensures.serves.none_out e none)) c.in_err-finish_session.ensures.fault)

@@ -6,13 +6,13 @@ use Rattle.bank_service.proofs.server.Server.serve_whole.Goals as goal
 pub returns-clause-served : goal.returns-clause-served
 returns-clause-served g c = on_ok_weaker c.print_rows.result (λ printed.
     let first = c.in_ok-finish_session.ensures.bank_after in
-    let left = left_behind_first g.S.CheckpointStore.model g.K.Keeper.Keeps g.K.Keeper.opening c.args.self.now.plan.saves c.args.self.now.plan.sessions
+    let left = left_behind_first g.S.CheckpointStore.model g.K.Keeper.model c.args.self.now.plan.saves c.args.self.now.plan.sessions
     c.args.self.now.primary c.finish_session.new.primary c.serve_all.new.self.primary first c.in_ok-serve_all.ensures.bank_after in
     record {
       opened = c.finish_session.new.primary;
       at_first = first;
       same_log = c.finish_session.ensures.log;
-      bank = serves_bank g.D.Reader.Read.remaining g.D.Writer.Write.contents g.K.Keeper.opening c.args.self.now.primary c.finish_session.new.primary
+      bank = serves_bank g.D.Reader.Read.remaining g.D.Writer.Write.contents g.K.Keeper.model c.args.self.now.primary c.finish_session.new.primary
           c.serve_all.new.self.primary c.args.self.now.plan.sessions c.args.self.now.plan.host
           (g.D.ClientListener.listens_at c.args.self.now.listener) (g.D.ClientListener.clients c.args.self.now.listener)
           (g.D.ClientListener.clients c.serve_all.new.self.listener) (g.W.Write.contents c.args.self.now.writer)

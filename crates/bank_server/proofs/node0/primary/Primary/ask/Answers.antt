@@ -31,7 +31,7 @@ invariant_of-self g c =
     let extends : ExtendsLog old new =
     subst (λ (l : List (Key × Call)). ExtendsLog l new) (ap (λ (s : SequencerOf). s.log) c.deref_mut.ensures.value)
     (extends_by_answer c.deref_mut.result.now.log new (c.args.key, c.args.call.now) c.ask-answer.result c.ask-answer.ensures.log) in
-    kept_by_more g.K.Keeper.Keeps old new extends.0 c.self.inside.counts c.count_answer.new.self c.self.inside.keeper c.self.inside.node.value
+    kept_by_more g.K.Keeper.model old new extends.0 c.self.inside.counts c.count_answer.new.self c.self.inside.keeper c.self.inside.node.value
     c.self.invariant c.ask-answer.ensures.valid.log extends.1
 
 pub returns-clause-counted : goal.returns-clause-counted

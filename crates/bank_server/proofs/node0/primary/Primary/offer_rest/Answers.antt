@@ -34,7 +34,7 @@ returns-in_err-submit_op-clause-serves g c =
           (subst (λ (r : ReplicaOf g.row.S.Denot). HasNoneOut r.board) (sym there) (kept.none_out e none));
       crew_lost = rw (p.1, p.2) (loses_crew keeps old fault (fault_behind keeps old at.board fault kept.none_out
           (subst (λ (r : ReplicaOf g.row.S.Denot). IsExecutionFault keeps r.board fault) there c.in_err-submit_op.ensures.fault)));
-      log_lost = rw (p.1, p.2) (loses_no_log g.K.Keeper.fails (g.K.Keeper.has_failed loop.self-inside.keeper) fault);
+      log_lost = rw (p.1, p.2) (loses_no_log g.K.Keeper.model.fails (g.K.Keeper.model.has_failed loop.self-inside.keeper) fault);
     }
 
 pub loop-number-preserved : goal.loop-number-preserved
@@ -60,7 +60,7 @@ loop-number-preserved g c =
     let here : slice_get (log_ops at.names log) (length at.board.log) ≡ Some op =
     op_here (op_of at.names) log (length at.board.log) call found ∙ ap Some looked_up in
     record {
-      kept = kept_by_one g.K.Keeper.Keeps log loop.self-inside.counts loop.self-inside.keeper at new kept.kept rest op put here;
+      kept = kept_by_one g.K.Keeper.model log loop.self-inside.counts loop.self-inside.keeper at new kept.kept rest op put here;
       log = kept.log;
       counts = kept.counts;
       keeper = kept.keeper;

@@ -7,7 +7,7 @@ use Rattle.bank_server.proofs.node0.primary.Primary.offer_rest.Given as goal
 -- node 0 has the log before this number
 abbrev pub invariant-loop-number : goal.invariant-loop-number
 invariant-loop-number g l = record {
-  kept : IsKeptPrimary g.K.Keeper.Keeps (record {
+  kept : IsKeptPrimary g.K.Keeper.model (record {
     log = l.self-inside.log.value.log;
     counts = l.self-inside.counts;
     node = l.self-inside.node.value;

@@ -10,7 +10,7 @@ pub invariant_of-result : goal.invariant_of-result
 invariant_of-result g c =
     let log = c.args.log.value.log in
     let valid : IsLog log = subst (λ (s : SequencerOf). IsLog s.log) c.deref.ensures c.length-length.ensures.valid in
-    subst (λ (node : ReplicaOf g.row.S.Denot). IsKeptPrimary g.K.Keeper.Keeps
+    subst (λ (node : ReplicaOf g.row.S.Denot). IsKeptPrimary g.K.Keeper.model
     (record { log = log; counts = c.new.result; node = node; keeper = c.args.keeper }))
     (sym c.in_ok-node.ensures) (record {
       valid = record {

@@ -15,7 +15,7 @@ invariant_of-self g c =
     let at : ReplicaOf g.row.S.Denot = c.self.inside.node.value in
     let new = c.execute_unfinished.new.replica in
     let there : c.deref_mut.result.now ≡ at = c.deref_mut.ensures.value in
-    kept_by_same g.K.Keeper.Keeps c.self.inside.log.value.log c.self.inside.counts c.self.inside.keeper at new c.self.invariant
+    kept_by_same g.K.Keeper.model c.self.inside.log.value.log c.self.inside.counts c.self.inside.keeper at new c.self.invariant
     (c.execute_unfinished.ensures.rest ∙ ap (λ (r : ReplicaOf g.row.S.Denot). rest_of r) there)
     (subst (λ (r : ReplicaOf g.row.S.Denot). PreservesLog r.board new.board) there c.execute_unfinished.ensures.log)
 
@@ -35,7 +35,7 @@ returns-in_err-execute_unfinished-clause-serves g c =
           (subst (λ (r : ReplicaOf g.row.S.Denot). HasNoneOut r.board) (sym there) (offered.none_out e none));
       crew_lost = rw (p.1, p.2) (loses_crew keeps old fault (fault_behind keeps old mid.board fault offered.none_out
           (subst (λ (r : ReplicaOf g.row.S.Denot). IsExecutionFault keeps r.board fault) there c.in_err-execute_unfinished.ensures.fault)));
-      log_lost = rw (p.1, p.2) (loses_no_log g.K.Keeper.fails _ fault);
+      log_lost = rw (p.1, p.2) (loses_no_log g.K.Keeper.model.fails _ fault);
     }
 
 pub returns-clause-serves : goal.returns-clause-serves

@@ -22,7 +22,7 @@ returns-clause-tells g c =
     let tells : HasReplies c.node.result.now.board replies =
     subst (λ (node : ReplicaOf g.row.S.Denot). HasReplies node.board replies) (sym c.node.ensures.value)
     (tells_all primary primary c.node.ensures.valid.customers c.requires.whole_log refl
-    (stays_bank {keeps = g.K.Keeper.Keeps} {opening = g.K.Keeper.opening} {has_failed = g.K.Keeper.has_failed} primary)) in
+    (stays_bank {model = g.K.Keeper.model} primary)) in
     let spelled : List PendingAsk → List ℕ = λ pending. flat_map (λ (w : PendingAsk). flat_map spelling (outcome_by replies w.key w.standing)) pending in
     tells_due (opening_rows_of primary) (inbox_state primary.log inbox c.args.out.now.items) _ (spelled (take inbox.due inbox.pending.items))
     refl c.forget_front.ensures refl refl
@@ -36,5 +36,5 @@ returns-clause-behind g c =
     let tells : HasReplies c.node.result.now.board replies =
     subst (λ (node : ReplicaOf g.row.S.Denot). HasReplies node.board replies) (sym c.node.ensures.value)
     (tells_all primary primary c.node.ensures.valid.customers c.requires.whole_log refl
-    (stays_bank {keeps = g.K.Keeper.Keeps} {opening = g.K.Keeper.opening} {has_failed = g.K.Keeper.has_failed} primary)) in
+    (stays_bank {model = g.K.Keeper.model} primary)) in
     (_, c.in_ok-push_outcomes.ensures replies tells)
