@@ -1,5 +1,5 @@
 -- What is done for clients who are served at once.
-use Rattle.std.specs.Prelude.{◌≡◌, ◌≢◌, ◌⊎◌, ◌≤◌, ◌<◌, ◌+◌, ℕ, ◌==◌, false, if◌then◌else◌, Option, Some, None, Result, Ok, Err, List, [], ◌∷◌, ◌++◌, length, map, IfSome, slice_get, take}
+use Rattle.std.specs.Prelude.{◌≡◌, ◌≢◌, ◌⊎◌, ◌≤◌, ◌<◌, ◌+◌, ℕ, ◌==◌, false, if◌then◌else◌, Option, Some, None, Result, Ok, Err, List, [], ◌∷◌, ◌++◌, length, map, IfSome, OnOk, slice_get, take}
 use Rattle.std.specs.List.{All, Contains, flat_map}
 use Rattle.sb_rows.specs.Rows.{Rows}
 use Rattle.sb_calls.specs.declared.ask.Key.{Key}
@@ -224,6 +224,15 @@ IsCalm (Some old) (Some new) = (new.outcomes ≡ old.outcomes) × (new.ending �
 -- no client outside this list was given anything, or ended
 abbrev pub AreCalmBut : List ℕ → List ClientOf → List ClientOf → Type 0
 AreCalmBut stirred old new = (i : ℕ) → IsCalm (slice_get old i) (slice_get new i) ⊎ Contains stirred i
+
+-- what a turn leaves: what connections took, and as many clients; and if it ended well, the whole log is
+-- kept unless nobody was stirred, and nobody else was given anything, or ended
+pub record TurnLeaves (result : Result (Unit {0}) SessionFault) (took took_after : Option (List (ℕ × List ℕ)))
+    (Kept : Type 0) (old : List ClientOf) (new : ClientsOf) : Type 0 where
+  pub sent : took_after ≡ took
+  pub as_many : length new.all ≡ length old
+  pub stirred : OnOk result (Kept ⊎ (new.stirred ≡ []))
+  pub calm : OnOk result (AreCalmBut new.stirred old new.all)
 
 -- the bytes of a read at the front of a chunk, or none if it failed
 abbrev pub piece_of : List ℕ → Option ℕ → Piece

@@ -1,5 +1,5 @@
 -- The bank of a log's file: the text of a new log is an opening up to its end, and why no bank is found.
-use Rattle.std.proofs.Common.{◌≡◌, ℕ, suc, ◌+◌, ◌-◌, ◌<◌, ◌≤◌, ◌==◌, ◌≢◌, Bool, true, false, not, eqb-true, if◌then◌else◌, Result, Ok, Err, List, [], ◌∷◌, ◌++◌, length, slice_index, take, drop, inl, inr, refl, sym, ap, ◌∙◌, arith, length-drop}
+use Rattle.std.proofs.Common.{◌≡◌, ℕ, suc, ◌+◌, ◌-◌, ◌<◌, ◌≤◌, ◌==◌, ◌≢◌, Bool, true, false, not, eqb-true, if◌then◌else◌, Result, Ok, Err, List, [], ◌∷◌, ◌++◌, length, slice_index, take, drop, inl, inr, refl, sym, ap, subst, ◌∙◌, arith, length-drop}
 use Rattle.std.proofs.Math.ListN.{drop_of_length-le}
 use Rattle.std.proofs.Math.Seq.{drop-cons}
 use Rattle.std.proofs.lemmas.List.{append_cancel_right, nil_from_length, take-append-drop}
@@ -14,16 +14,17 @@ use Rattle.sb_calls.specs.declared.ask.Key.{Key}
 use Rattle.sb_calls.specs.declared.call.Call.{Call}
 use Rattle.sb_log.specs.Records.{records}
 use Rattle.sb_log.specs.declared.log_fault.LogFault.{LogFault}
+use Rattle.sb_log.specs.declared.log_fault.LogFault.TheVariants.{Damaged, Device, InUse, OutOfMemory}
 use Rattle.sb_ask_log.specs.LogFile.{IsOpeningText, with_line_end}
-use Rattle.sb_ask_log.specs.Recovery.{AreRead, ReadsAskLog}
+use Rattle.sb_ask_log.specs.Recovery.{AreRead, FailsToMake, FailsToRecover, HasPartOfOpening, ReadsAskLog}
 use Rattle.bank_server.specs.Input.{in_opening}
 use Rattle.bank_server.specs.declared.fault.InputFault.{InputFault}
 use Rattle.bank_server.specs.declared.fault.RunFault.TheVariants as run
-use Rattle.bank_service.specs.FoundBank.{IsFindFault}
+use Rattle.bank_service.specs.FoundBank.{HasNoLog, IsFindFault}
 use Rattle.bank_service.specs.Opening.{with_nothing_behind, whole_opening_of}
 use Rattle.bank_service.specs.declared.serve_fault.ServeFault.{ServeFault}
 use Rattle.bank_service.specs.declared.serve_fault.ServeFault.TheVariants.{AnotherOpening, Log, PortTaken, ReadBack, Run, Store, StoreInUse}
-use Rattle.bank_service.specs.inner.FindSteps.{IsMatchFault}
+use Rattle.bank_service.specs.inner.FindSteps.{IsCreateFault, IsMatchFault}
 use Rattle.bank_service.proofs.WholeOpenings.{whole_if_all, whole_is}
 
 -- ---- the end of the last line
@@ -129,13 +130,6 @@ some_if_filled text count is some none =
 
 -- ---- why no bank is found
 
--- an opening isn't empty
-pub filled : (text : List ℕ) (opening : OpeningText) → whole_opening_of text ≡ Ok opening → text ≢ []
-filled text opening is none =
-    let read : opening_of text ≡ Ok opening = (whole_takes text opening is).0 in
-    let not_read : opening_of text ≡ Err (1, NoBegin) = ap (λ (t : List ℕ). opening_of t) none ∙ none_of_nothing in
-    cc
-
 -- the text of a log is a whole opening
 log_opening : (bodies : List (List ℕ)) (text : List ℕ) (log : List (Key × Call)) → AreRead bodies text log → text ≢ [] → IsOpeningText text
 log_opening [] text log read some = absurd (some read.0)
@@ -162,6 +156,53 @@ matches_not content input new text asks rest StoreInUse read left some is = absu
 matches_not content input new text asks rest (PortTaken port) read left some is = absurd is
 matches_not content input new text asks rest (Log fault) read left some is = absurd is
 matches_not content input new text asks rest AnotherOpening read left some is = (text, asks, rest, read, some, is.0, is.1, left)
+
+-- no log is made with this text
+pub create_fault : (failed : Bool) (Honest : Type 0) (text wanted new : List ℕ) (fault : LogFault) → text ≡ wanted
+    → FailsToMake text fault failed Honest new → Honest → IsCreateFault wanted (Log fault) new
+create_fault failed Honest text wanted new Device same is honest = subst (λ (t : List ℕ). HasPartOfOpening t new) same (is.1 honest)
+create_fault failed Honest text wanted new OutOfMemory same is honest = subst (λ (t : List ℕ). HasPartOfOpening t new) same (is honest)
+create_fault failed Honest text wanted new (Damaged byte behind) same is honest = absurd is
+create_fault failed Honest text wanted new InUse same is honest = absurd is
+
+pub device_failed : {A : Type 0} (failed : Bool) (Honest : Type 0) (text new : List ℕ) (fault : LogFault) → FailsToMake text fault failed Honest new
+    → ◌≡◌ {A = Result A ServeFault} (Err (Log fault)) (Err (Log Device)) → failed ≡ true
+device_failed failed Honest text new Device is e = is.0
+device_failed failed Honest text new OutOfMemory is e = cc
+device_failed failed Honest text new (Damaged byte behind) is e = absurd is
+device_failed failed Honest text new InUse is e = absurd is
+
+-- and no bank is found then in a file that has no log
+pub creates_not : (content input text new : List ℕ) (asks : List (Key × Call)) (rest : List ℕ) (fault : ServeFault) → text ≡ [] → asks ≡ []
+    → ReadsAskLog content text asks rest → IsCreateFault (with_line_end input) fault new → IsFindFault content input fault new
+creates_not content input text new asks rest fault none no_ask read is = by fault is
+  where
+    no_log : HasNoLog content
+    no_log = (rest, subst (λ (t : List ℕ). ReadsAskLog content t [] rest) none (subst (λ (l : List (Key × Call)). ReadsAskLog content text l rest) no_ask read))
+
+    by : (fault : ServeFault) → IsCreateFault (with_line_end input) fault new → IsFindFault content input fault new
+    by (Run (run.Input line fault)) is = (no_log, is.0, is.1)
+    by (Run (run.Strayed node reason)) is = absurd is
+    by (Run run.CrewGone) is = absurd is
+    by (Run run.Device) is = absurd is
+    by (Run run.OutOfMemory) is = inr (no_log, is)
+    by ReadBack is = absurd is
+    by Store is = absurd is
+    by StoreInUse is = absurd is
+    by (PortTaken port) is = absurd is
+    by (Log (Damaged byte behind)) is = absurd is
+    by (Log Device) is = inr (no_log, is)
+    by (Log OutOfMemory) is = inr (no_log, is)
+    by (Log InUse) is = absurd is
+    by AnotherOpening is = absurd is
+
+-- nor in a file that isn't recovered
+pub recover_fault : (content input new : List ℕ) (synced synced_new : ℕ) (fault : LogFault) → FailsToRecover content synced fault new synced_new
+    → IsFindFault content input (Log fault) new
+recover_fault content input new synced synced_new (Damaged byte behind) is = (is.0, is.1)
+recover_fault content input new synced synced_new Device is = inl is
+recover_fault content input new synced synced_new OutOfMemory is = inl is
+recover_fault content input new synced synced_new InUse is = absurd is
 
 -- a log's fault again
 pub log_again : {A B : Type 0} (x y : LogFault) → ◌≡◌ {A = Result A ServeFault} (Err (Log x)) (Err (Log y)) → ◌≡◌ {A = Result B LogFault} (Err x) (Err y)

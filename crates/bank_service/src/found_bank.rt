@@ -1,11 +1,9 @@
 //! The bank that is found in a log's file.
-ghost use Rattle.std.specs.Prelude.{◌≡◌, ◌≢◌, ◌⊎◌, ◌↔◌, [], false, true, IfErr, IfOk, IsErrOf};
-ghost use Rattle.sha2.specs.Hashers.{Holds256};
+ghost use Rattle.std.specs.Prelude.{◌≡◌, ◌⊎◌, ◌↔◌, [], true, IfErr, IfOk, IsErrOf, MatchResult};
 ghost use Rattle.sb_log.specs.LogFiles.{HasFailed};
 ghost use Rattle.sb_log.specs.declared.log_fault.LogFault.TheVariants.{Device};
-ghost use Rattle.sb_ask_log.specs.LogFile.{log_bytes, with_line_end};
-ghost use Rattle.sb_ask_log.specs.Recovery.{HasPartOfOpening};
-ghost use Rattle.sb_ask_log.specs.Telling.{Tells};
+ghost use Rattle.sb_ask_log.specs.LogFile.{with_line_end};
+ghost use Rattle.sb_ask_log.specs.Telling.{IsResumable};
 ghost use Rattle.bank_service.specs.FoundBank.{FindsBank, IsFindFault};
 ghost use Rattle.bank_service.specs.Opening.{IsOpeningOf, whole_opening_of};
 ghost use Rattle.bank_service.specs.ServeFaults.{IsBankFault};
@@ -51,18 +49,14 @@ pub fn find_bank<F: LogFile>(
     input: &[u8],
 ) -> Result<FoundBank, ServeFault>
     ensures honest { F.IsHonest file.old ↔ F.IsHonest file.new }
-    ensures found { F.IsHonest file.old → IfOk result (λ found. FindsBank (F.content file.old) input.now
-        found.log.text.items found.log.log.value.log found.cut) }
+    // What is found in the file, or why nothing is, and what the file has then.
+    ensures file { F.IsHonest file.old → MatchResult result
+        (λ found. FindsBank (F.content file.old) input.now found.log.text.items found.log.log.value.log found.cut)
+        (λ fault. IsFindFault (F.content file.old) input.now fault (F.content file.new)) }
     ensures opening { IfOk result (λ found. IsOpeningOf (whole_opening_of found.log.text.items) found.opening) }
-    ensures some { IfOk result (λ found. found.log.text.items ≢ []) }
-    ensures holds { IfOk result (λ found.
-        Holds256 found.log.end.hasher (log_bytes found.log.text.items found.log.log.value.log)) }
-    // It counts as told from now on.
-    ensures told { F.IsHonest file.old → IfOk result (λ found. Tells (F.content file.new) (F.synced file.new) false
-        found.log.end.hasher found.log.text.items found.log.log.value.log) }
-    // Why it fails, and what the file has then.
-    ensures fault { F.IsHonest file.old → IfErr result (λ fault.
-        IsFindFault (F.content file.old) input.now fault (F.content file.new)) }
+    // Its log counts as told from now on.
+    ensures resumes { IfOk result (λ found. IsResumable F.IsHonest F.content F.synced file.new found.log.end
+        found.log.text.items found.log.log.value.log) }
     ensures device { IsErrOf result (Log Device)
         → HasFailed (F.has_failed file.new) (F.IsHonest file.old) (F.content file.old) }
     ensures kind { IfErr result IsBankFault }
@@ -91,10 +85,8 @@ fn create<F: LogFile>(
     ensures honest { F.IsHonest file.old ↔ F.IsHonest file.new }
     ensures log { IfOk result (λ made. (made.0.text.items ≡ with_line_end input.now) × (made.0.log.value.log ≡ [])) }
     ensures opening { IfOk result (λ made. IsOpeningOf (whole_opening_of made.0.text.items) made.1) }
-    ensures some { IfOk result (λ made. made.0.text.items ≢ []) }
-    ensures holds { IfOk result (λ made. Holds256 made.0.end.hasher (log_bytes made.0.text.items [])) }
-    ensures told { F.IsHonest file.old → IfOk result (λ made.
-        Tells (F.content file.new) (F.synced file.new) false made.0.end.hasher made.0.text.items []) }
+    ensures resumes { IfOk result (λ made. IsResumable F.IsHonest F.content F.synced file.new made.0.end
+        made.0.text.items made.0.log.value.log) }
     ensures fault { F.IsHonest file.old → IfErr result (λ fault.
         IsCreateFault (with_line_end input.now) fault (F.content file.new)) }
     ensures device { IsErrOf result (Log Device) → F.has_failed file.new ≡ true }

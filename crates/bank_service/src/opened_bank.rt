@@ -1,8 +1,6 @@
 //! Opening a bank on its log's file.
-ghost use Rattle.std.specs.Prelude.{◌≡◌, ◌≢◌, [], false, IfOk};
-ghost use Rattle.sha2.specs.Hashers.{Holds256};
-ghost use Rattle.sb_ask_log.specs.LogFile.{log_bytes};
-ghost use Rattle.sb_ask_log.specs.Telling.{KeepsAsks, Tells};
+ghost use Rattle.std.specs.Prelude.{IfOk};
+ghost use Rattle.sb_ask_log.specs.Telling.{IsResumable, KeepsAsks};
 ghost use Rattle.bank_server.specs.Execution.{HasNoEntries};
 ghost use Rattle.bank_service.specs.OpenedBank.{IsBankOn};
 
@@ -23,10 +21,8 @@ pub fn open_on_file<F: LogFile, S: CheckpointStore>(
     found: FoundBank,
     store: S,
 ) -> Result<Primary<S, AskLog<F>>, AllocError>
-    requires some { found.log.text.items ≢ [] }
-    requires holds { Holds256 found.log.end.hasher (log_bytes found.log.text.items found.log.log.value.log) }
-    requires told { F.IsHonest file → Tells (F.content file) (F.synced file) false found.log.end.hasher
-        found.log.text.items found.log.log.value.log }
+    requires { IsResumable F.IsHonest F.content F.synced file found.log.end found.log.text.items
+        found.log.log.value.log }
     ensures opened { IfOk result (IsBankOn found.log.text.items found.log.log.value.log found.opening store file) }
     ensures kept { IfOk result (λ bank.
         KeepsAsks F.IsHonest F.content F.synced bank.keeper found.log.log.value.log) }

@@ -17,7 +17,7 @@ use Rattle.sb_log.specs.declared.log_fault.LogFault.TheVariants.{Damaged, Device
 use Rattle.sb_log.proofs.Lives.{keeps_what_it_told}
 use Rattle.sb_log.proofs.Records.{records_push}
 use Rattle.sb_ask_log.specs.LogFile.{AreBodiesOf, log_bytes, log_magic}
-use Rattle.sb_ask_log.specs.Recovery.{AreRead, IsDamagedAskLog, IsReadFault, IsSameOrCut, IsUnchangedIfDamaged, ReadsAskLog}
+use Rattle.sb_ask_log.specs.Recovery.{AreRead, FailsToRecover, IsDamagedAskLog, IsReadFault, IsSameOrCut, ReadsAskLog, RecoversAsks}
 use Rattle.sb_ask_log.specs.inner.Replaying.{AskReplayOf, RefusesBody, TakesBody}
 use Rattle.sb_ask_log.specs.Telling.{RecoversWhatItTold, Tells}
 use Rattle.sb_ask_log.proofs.Bodies.{bodies_begin, joined_log}
@@ -83,13 +83,6 @@ read_fault content InUse new d = absurd d
 abbrev pub life_of : List ℕ → ℕ → Life
 life_of content synced = record { content = content; synced = synced; given = []; told = []; healthy = false }
 
-pub recover_fault : (content : List ℕ) (synced : ℕ) (fault : LogFault) (new : AskReplayOf) (m : Life)
-    → Recovers TakesBody RefusesBody (life_of content synced) nothing_taken (Err fault) new m → IsReadFault content fault
-recover_fault content synced (Damaged byte behind) new m d = damage_is content byte behind d.0
-recover_fault content synced Device new m d = tt
-recover_fault content synced OutOfMemory new m d = tt
-recover_fault content synced InUse new m d = absurd d
-
 left_over : (content content_new : List ℕ) (synced synced_new : ℕ) (m : Life)
     → (m ≡ life_of content synced) ⊎ ((bodies : List (List ℕ)) × (rest : List ℕ) × Happens (life_of content synced) (Cut bodies rest) m)
     → IsFileOf content_new synced_new m → IsSameOrCut content content_new
@@ -99,14 +92,18 @@ left_over content content_new synced synced_new m how is = ⊎_elim
     inr (cut.0, cut.1, cut.2.0, cut.2.1, sym is.content_is ∙ ap (λ (k : Life). k.content) cut.2.2))
     how
 
-pub damaged_stays : (content content_new : List ℕ) (synced synced_new : ℕ) (fault : LogFault) (new : AskReplayOf) (m : Life)
+-- a damaged file stays, and after another fault it is the same, or its torn rest is cut off
+pub unrecovered : (content content_new : List ℕ) (synced synced_new : ℕ) (fault : LogFault) (new : AskReplayOf) (m : Life)
     → Recovers TakesBody RefusesBody (life_of content synced) nothing_taken (Err fault) new m → IsFileOf content_new synced_new m
-    → IsUnchangedIfDamaged fault content synced content_new synced_new
-damaged_stays content content_new synced synced_new (Damaged byte behind) new m d is =
-    (sym is.content_is ∙ ap (λ (k : Life). k.content) d.1, sym is.synced_is ∙ ap (λ (k : Life). k.synced) d.1)
-damaged_stays content content_new synced synced_new Device new m d is = tt
-damaged_stays content content_new synced synced_new OutOfMemory new m d is = tt
-damaged_stays content content_new synced synced_new InUse new m d is = tt
+    → FailsToRecover content synced fault content_new synced_new
+unrecovered content content_new synced synced_new (Damaged byte behind) new m d is = (
+  damage_is content byte behind d.0,
+  sym is.content_is ∙ ap (λ (k : Life). k.content) d.1,
+  sym is.synced_is ∙ ap (λ (k : Life). k.synced) d.1,
+)
+unrecovered content content_new synced synced_new Device new m d is = left_over content content_new synced synced_new m d is
+unrecovered content content_new synced synced_new OutOfMemory new m d is = left_over content content_new synced synced_new m d is
+unrecovered content content_new synced synced_new InUse new m d is = absurd d
 
 -- a file to which these bodies were appended, and one that was told them
 abbrev appended : List (List ℕ) → Life
@@ -147,31 +144,19 @@ recovered_tells content content_new synced synced_new bodies rest end new l m r 
 -- what was replayed; the file has the records that were read, and nothing behind them
 pub recovered_is : (content content_new : List ℕ) (synced_new : ℕ) (bodies : List (List ℕ)) (rest : List ℕ) (end : LogEnd) (new : AskReplayOf)
     (l m : Life) → ReadsTo TakesBody RefusesBody content nothing_taken bodies rest end new → Happens l (ReadBack bodies rest) m
-    → IsFileOf content_new synced_new m
-    → (left : List ℕ) × ReadsAskLog content new.text new.log left × (end.torn ≡ length left) × (content ≡ content_new ++ left)
-recovered_is content content_new synced_new bodies rest end new l m r back is = (
-  rest,
-  record { bodies = bodies; reads = r.reads; torn = r.torn; are = taken_are bodies new r.replayed },
-  r.torn_is,
-  r.reads.whole ∙ ap (λ (c : List ℕ). c ++ rest) (sym (ap (λ (k : Life). k.content) back.2) ∙ is.content_is),
-)
-
--- after a fault the file is the same, or its torn rest is cut off
-pub stays_or_cut : (content content_new : List ℕ) (synced synced_new : ℕ) (fault : LogFault) (new : AskReplayOf) (m : Life)
-    → Recovers TakesBody RefusesBody (life_of content synced) nothing_taken (Err fault) new m → IsFileOf content_new synced_new m
-    → IsSameOrCut content content_new
-stays_or_cut content content_new synced synced_new (Damaged byte behind) new m d is = inl (sym is.content_is ∙ ap (λ (k : Life). k.content) d.1)
-stays_or_cut content content_new synced synced_new Device new m d is = left_over content content_new synced synced_new m d is
-stays_or_cut content content_new synced synced_new OutOfMemory new m d is = left_over content content_new synced synced_new m d is
-stays_or_cut content content_new synced synced_new InUse new m d is = absurd d
-
-pub recovered_empty : (content content_new : List ℕ) (synced synced_new : ℕ) (bodies : List (List ℕ)) (rest : List ℕ) (end : LogEnd) (new : AskReplayOf)
-    (l m : Life) → ReadsTo TakesBody RefusesBody content nothing_taken bodies rest end new → Happens l (ReadBack bodies rest) m
-    → IsFileOf content_new synced_new m → new.text ≡ [] → (content_new ≡ []) × (synced_new ≡ 0) × (new.log ≡ [])
-recovered_empty content content_new synced synced_new bodies rest end new l m r back is none =
-    let no = none_read bodies new.text new.log (taken_are bodies new r.replayed) none in
-    let m_is : m ≡ all_told [] = back.2 ∙ ap all_told no.0 in
-    (sym is.content_is ∙ ap (λ (k : Life). k.content) m_is, sym is.synced_is ∙ ap (λ (k : Life). k.synced) m_is, no.1)
+    → IsFileOf content_new synced_new m → RecoversAsks content new.text new.log end.torn content_new synced_new
+recovered_is content content_new synced_new bodies rest end new l m r back is =
+    let are : AreRead bodies new.text new.log = taken_are bodies new r.replayed in
+    record {
+      rest = rest;
+      read = record { bodies = bodies; reads = r.reads; torn = r.torn; are = are };
+      torn_is = r.torn_is;
+      cut = r.reads.whole ∙ ap (λ (c : List ℕ). c ++ rest) (sym (ap (λ (k : Life). k.content) back.2) ∙ is.content_is);
+      empty = λ none.
+          let no = none_read bodies new.text new.log are none in
+          let m_is : m ≡ all_told [] = back.2 ∙ ap all_told no.0 in
+          (sym is.content_is ∙ ap (λ (k : Life). k.content) m_is, sym is.synced_is ∙ ap (λ (k : Life). k.synced) m_is, no.1);
+    }
 
 -- ---- what was told is read
 

@@ -1,6 +1,6 @@
 -- What a log's file was told, after an append and a sync.
 use Rattle.std.proofs.Common.{◌≡◌, ◌≢◌, ℕ, Bool, true, false, not, List, [], ◌∷◌, ◌++◌, length, take, drop, refl, sym, ap, subst, ◌∙◌, true≢false, ⊎_elim, append-nil}
-use Rattle.std.specs.Prelude.{Result, Ok, Err, OnErr}
+use Rattle.std.specs.Prelude.{Result, Ok, Err, MatchResult}
 use Rattle.std.specs.List.{All}
 use Rattle.std.proofs.Math.Seq.{take-length}
 use Rattle.std.proofs.lemmas.List.{take-append-drop}
@@ -21,9 +21,9 @@ use Rattle.sb_ask_log.specs.Recovery.{HasPartOfOpening}
 use Rattle.sb_ask_log.specs.Telling.{Tells}
 use Rattle.sb_ask_log.proofs.Bodies.{batch_more, opened}
 
-pub always : {A E : Type 0} (result : Result A E) (P : Type 0) → P → OnErr result P
-always (Ok done) P p = tt
-always (Err fault) P p = p
+-- what holds after an error
+pub after_err : {A E : Type 0} (result : Result A E) (P Q : Type 0) (fault : E) → result ≡ Err fault → Q → MatchResult result (λ done. P) (λ fault. Q)
+after_err {A} {E} result P Q fault is q = subst (λ (r : Result A E). MatchResult r (λ done. P) (λ fault. Q)) (sym is) q
 
 same_not : (a b : Bool) → not a ≡ not b → a ≡ b
 same_not true true e = refl

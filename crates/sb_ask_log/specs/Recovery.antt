@@ -1,11 +1,11 @@
 -- What is read of a log's file.
-use Rattle.std.specs.Prelude.{◌≡◌, ◌⊎◌, ℕ, List, [], ◌∷◌, ◌++◌, length, take}
+use Rattle.std.specs.Prelude.{◌≡◌, ◌⊎◌, ℕ, Bool, true, List, [], ◌∷◌, ◌++◌, length, take}
 use Rattle.sb_calls.specs.declared.ask.Key.{Key}
 use Rattle.sb_calls.specs.declared.call.Call.{Call}
 use Rattle.sb_log.specs.Reading.{IsTorn, ReadsRecords}
 use Rattle.sb_log.specs.Records.{IsBody, body_bytes, record_after, records}
 use Rattle.sb_log.specs.declared.log_fault.LogFault.{LogFault}
-use Rattle.sb_log.specs.declared.log_fault.LogFault.TheVariants.{Damaged, InUse}
+use Rattle.sb_log.specs.declared.log_fault.LogFault.TheVariants.{Damaged, Device, InUse, OutOfMemory}
 use Rattle.sb_ask_log.specs.LogFile.{AreBodiesOf, log_magic}
 
 -- bodies that are read: none, and then there is no opening and no ask, or those of a log
@@ -51,7 +51,28 @@ IsSameOrCut old new = (new ≡ old)
 abbrev pub HasPartOfOpening : List ℕ → List ℕ → Type 0
 HasPartOfOpening text content = (kept : ℕ) × (content ≡ take kept (record_after [] (log_magic ++ text)))
 
--- a file that is damaged stays as it is
-abbrev pub IsUnchangedIfDamaged : LogFault → List ℕ → ℕ → List ℕ → ℕ → Type 0
-IsUnchangedIfDamaged (Damaged byte behind) old synced new synced_new = (new ≡ old) × (synced_new ≡ synced)
-IsUnchangedIfDamaged other old synced new synced_new = Unit {0}
+-- an honest file of these bytes is recovered: what is read of them is this log, the torn rest behind it is
+-- cut off, and without an opening nothing is left
+pub record RecoversAsks (old : List ℕ) (text : List ℕ) (log : List (Key × Call)) (torn : ℕ) (new : List ℕ) (synced : ℕ)
+    : Type 0 where
+  pub rest : List ℕ
+  pub read : ReadsAskLog old text log rest
+  pub torn_is : torn ≡ length rest
+  pub cut : old ≡ new ++ rest
+  pub empty : text ≡ [] → (new ≡ []) × (synced ≡ 0) × (log ≡ [])
+
+-- an honest file of these bytes, so many of them synced, isn't recovered: it is damaged, and stays as it is;
+-- or its device failed or memory was refused, and it stays or its torn rest is cut off
+abbrev pub FailsToRecover : List ℕ → ℕ → LogFault → List ℕ → ℕ → Type 0
+FailsToRecover old synced (Damaged byte behind) new synced_new =
+    IsDamagedAskLog old byte behind × (new ≡ old) × (synced_new ≡ synced)
+FailsToRecover old synced Device new synced_new = IsSameOrCut old new
+FailsToRecover old synced OutOfMemory new synced_new = IsSameOrCut old new
+FailsToRecover old synced InUse new synced_new = ⊥
+
+-- no log with this opening is made in an empty file: its device failed, or memory was refused, and an honest
+-- file has a beginning of the opening's record then
+abbrev pub FailsToMake : List ℕ → LogFault → Bool → Type 0 → List ℕ → Type 0
+FailsToMake text Device failed Honest new = (failed ≡ true) × (Honest → HasPartOfOpening text new)
+FailsToMake text OutOfMemory failed Honest new = Honest → HasPartOfOpening text new
+FailsToMake text other failed Honest new = ⊥

@@ -1,5 +1,5 @@
 -- The asks that a log's file was told.
-use Rattle.std.specs.Prelude.{◌≡◌, ℕ, max, Bool, false, List, length, take}
+use Rattle.std.specs.Prelude.{◌≡◌, ◌≢◌, ◌⊎◌, ℕ, max, Bool, false, true, List, [], length, take}
 use Rattle.sha2.specs.declared.Sha256.{Sha256}
 use Rattle.sha2.specs.Hashers.{Holds256}
 use Rattle.sb_calls.specs.declared.ask.Key.{Key}
@@ -7,6 +7,9 @@ use Rattle.sb_calls.specs.declared.call.Call.{Call}
 use Rattle.sb_log.specs.Lives.{Event, HappensAll, Life, newborn}
 use Rattle.sb_log.specs.LogCalls.{DurableLogOf, IsLogOf}
 use Rattle.sb_log.specs.Reading.{Begins}
+use Rattle.sb_log.specs.declared.log_end.LogEnd.{LogEnd}
+use Rattle.sb_log.specs.declared.log_fault.LogFault.{LogFault}
+use Rattle.sb_log.specs.declared.log_fault.LogFault.TheVariants.{Device, OutOfMemory}
 use Rattle.sb_ask_log.specs.LogFile.{AreBodiesOf, log_bytes}
 use Rattle.sb_ask_log.specs.Recovery.{ReadsAskLog}
 
@@ -40,7 +43,22 @@ RecoversWhatItTold = (content : List ℕ) (synced : ℕ) (failed : Bool) (hasher
     → ReadsAskLog (take (max synced kept) content) read_text read rest
     → (read_text ≡ text) × Begins told read
 
+-- the rest of a log isn't saved: the device failed, now or before, and the log has failed then; or memory was
+-- refused
+abbrev pub FailsToSave : {F : Type 0} → (F → Bool) → AskLogOf F → LogFault → AskLogOf F → Type 0
+FailsToSave has_failed old Device new =
+    (new.log.failed ≡ true) × ((old.log.failed ≡ true) ⊎ (has_failed new.log.file ≡ true))
+FailsToSave has_failed old OutOfMemory new = Unit {0}
+FailsToSave has_failed old other new = ⊥
+
 module _ {F : Type 0} (IsHonest : F → Type 0) (content : F → List ℕ) (synced : F → ℕ) where
+  -- a log that ends so can be gone on with: it has an opening, its hasher holds these asks, and an honest
+  -- file was told them
+  pub record IsResumable (file : F) (end : LogEnd) (text : List ℕ) (asks : List (Key × Call)) : Type 0 where
+    pub some : text ≢ []
+    pub holds : Holds256 end.hasher (log_bytes text asks)
+    pub told : IsHonest file → Tells (content file) (synced file) false end.hasher text asks
+
   -- it keeps these asks: its hasher and its count are theirs, its log goes on behind them unless a
   -- call failed, and an honest file was told them
   pub record KeepsAsks (log : AskLogOf F) (asks : List (Key × Call)) : Type 0 where

@@ -1,15 +1,8 @@
 //! The asks of a sequencer's log, in a file.
-ghost use Rattle.std.specs.Prelude.{◌≡◌, ◌≢◌, ◌⊎◌, ◌↔◌, ◌++◌, ◌+◌, ◌<◌, ◌≤◌, ◌^◌, [], Some, List, ℕ, length, drop, take, false, true, IfErr, IsErrOf, IfOk, OnErr, OnOk};
+ghost use Rattle.std.specs.Prelude.{◌≡◌, ◌↔◌, ◌++◌, ◌+◌, ◌<◌, ◌≤◌, Some, length, drop, take, true, IfErr, MatchResult, OnOk};
 ghost use Rattle.std.specs.List.{All};
-ghost use Rattle.sha2.specs.Hashers.{Holds256};
-ghost use Rattle.sha2.specs.Sha256.{sha256};
-ghost use Rattle.sb_calls.specs.declared.ask.Key.{Key as AnyKey};
-ghost use Rattle.sb_calls.specs.declared.call.Call.{Call as AnyCall};
-ghost use Rattle.sb_log.specs.declared.log_fault.LogFault.TheVariants.{Device};
 ghost use Rattle.sb_ask_log.specs.Asks.{IsAsk, asks_field};
-ghost use Rattle.sb_ask_log.specs.Keeping.{IsKeepFault};
-ghost use Rattle.sb_ask_log.specs.LogFile.{log_bytes};
-ghost use Rattle.sb_ask_log.specs.Telling.{KeepsAsks, Tells};
+ghost use Rattle.sb_ask_log.specs.Telling.{FailsToSave, IsResumable, KeepsAsks};
 
 use crate::keeper::Keeper;
 use crate::log_in_file::LogInFile;
@@ -50,10 +43,7 @@ impl<F: LogFile> Model for AskLog<F> {
 impl<F: LogFile> AskLog<F> {
     /// Goes on with the log that a file has, and answers the sequencer's log beside it.
     pub fn resume(alloc: Global, file: F, found: LogInFile) -> (AskLog<F>, Box<Sequencer>)
-        requires some { found.text.items ≢ [] }
-        requires holds { Holds256 found.end.hasher (log_bytes found.text.items found.log.value.log) }
-        requires told { F.IsHonest file → Tells (F.content file) (F.synced file) false found.end.hasher
-            found.text.items found.log.value.log }
+        requires { IsResumable F.IsHonest F.content F.synced file found.end found.text.items found.log.value.log }
         ensures log { result.1 ≡ found.log }
         ensures keeps { KeepsAsks F.IsHonest F.content F.synced result.0 found.log.value.log }
         ensures text { result.0.text ≡ found.text.items }
@@ -103,16 +93,13 @@ impl<F: LogFile> AskLog<F> {
     pub fn save_rest(&mut self, log: &Sequencer) -> Result<(), LogFault>
         requires { self.old.saved ≤ length log.now.log }
         ensures honest { F.IsHonest self.old.log.file ↔ F.IsHonest self.new.log.file }
-        ensures saved { KeepsAsks F.IsHonest F.content F.synced self.old (take self.old.saved log.now.log)
-            → OnOk result (KeepsAsks F.IsHonest F.content F.synced self.new log.now.log) }
-        // After a failure what was told stays so.
-        ensures stays { KeepsAsks F.IsHonest F.content F.synced self.old (take self.old.saved log.now.log)
-            → OnErr result (KeepsAsks F.IsHonest F.content F.synced self.new (take self.old.saved log.now.log)) }
+        // It keeps the whole log, or still what it kept before.
+        ensures keeps { KeepsAsks F.IsHonest F.content F.synced self.old (take self.old.saved log.now.log)
+            → MatchResult result (λ done. KeepsAsks F.IsHonest F.content F.synced self.new log.now.log)
+            (λ fault. KeepsAsks F.IsHonest F.content F.synced self.new (take self.old.saved log.now.log)) }
         ensures text { self.new.text ≡ self.old.text }
         ensures failed { self.old.log.failed ≡ true → self.new.log.failed ≡ true }
-        ensures fault { IfErr result (IsKeepFault true self.new.log.failed) }
-        ensures device { IsErrOf result Device
-            → (self.old.log.failed ≡ true) ⊎ (F.has_failed self.new.log.file ≡ true) }
+        ensures fault { IfErr result (λ fault. FailsToSave F.has_failed self.old fault self.new) }
     {
         let length = log.length();
         if self.saved == length {

@@ -1,10 +1,8 @@
 //! Making a log of asks.
-ghost use Rattle.std.specs.Prelude.{◌≡◌, ◌⊎◌, ◌↔◌, ◌+◌, ◌<◌, ◌^◌, [], length, true, false, IfErr, IfOk, IsErrOf, OnErr};
-ghost use Rattle.sha2.specs.Hashers.{Holds256};
-ghost use Rattle.sb_log.specs.declared.log_fault.LogFault.TheVariants.{Device, OutOfMemory};
-ghost use Rattle.sb_ask_log.specs.LogFile.{IsOpeningText, log_bytes};
-ghost use Rattle.sb_ask_log.specs.Recovery.{HasPartOfOpening};
-ghost use Rattle.sb_ask_log.specs.Telling.{Tells};
+ghost use Rattle.std.specs.Prelude.{◌≡◌, ◌↔◌, ◌+◌, ◌<◌, ◌^◌, [], length, IfErr, IfOk};
+ghost use Rattle.sb_ask_log.specs.LogFile.{IsOpeningText};
+ghost use Rattle.sb_ask_log.specs.Recovery.{FailsToMake};
+ghost use Rattle.sb_ask_log.specs.Telling.{IsResumable};
 
 use crate::ask_replay::{MAGIC, empty_log};
 use crate::log_in_file::LogInFile;
@@ -25,14 +23,11 @@ pub fn create_asks<F: LogFile>(
     requires size { length text.items + 8 < 2 ^ 32 }
     requires empty { F.IsHonest file.old → (F.content file.old ≡ []) × (F.synced file.old ≡ 0) }
     ensures honest { F.IsHonest file.old ↔ F.IsHonest file.new }
-    ensures log { IfOk result (λ made. (made.text.items ≡ text.items) × (made.log.value.log ≡ [])) }
-    ensures end { IfOk result (λ made. made.end.torn ≡ 0) }
-    ensures holds { IfOk result (λ made. Holds256 made.end.hasher (log_bytes text.items [])) }
-    ensures told { F.IsHonest file.old → IfOk result (λ made.
-        Tells (F.content file.new) (F.synced file.new) false made.end.hasher text.items []) }
-    ensures part { F.IsHonest file.old → OnErr result (HasPartOfOpening text.items (F.content file.new)) }
-    ensures fault { IfErr result (λ fault. (fault ≡ Device) ⊎ (fault ≡ OutOfMemory)) }
-    ensures device { IsErrOf result Device → F.has_failed file.new ≡ true }
+    ensures made { IfOk result (λ made. (made.text.items ≡ text.items) × (made.log.value.log ≡ [])
+        × (made.end.torn ≡ 0)
+        × IsResumable F.IsHonest F.content F.synced file.new made.end made.text.items made.log.value.log) }
+    ensures fault { IfErr result (λ fault.
+        FailsToMake text.items fault (F.has_failed file.new) (F.IsHonest file.new) (F.content file.new)) }
 {
     let log = empty_log(alloc)?;
     let mut record = Vec::from_slice(alloc, &[0; HEAD])?;

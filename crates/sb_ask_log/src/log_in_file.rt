@@ -1,11 +1,11 @@
 //! The log that a file has.
-ghost use Rattle.std.specs.Prelude.{◌≡◌, ◌≢◌, ◌+◌, ◌++◌, ◌↔◌, ℕ, List, [], length, false, IfErr, IfOk, IsErrOf, MatchBool, OnErr};
+ghost use Rattle.std.specs.Prelude.{◌≡◌, ◌≢◌, ◌↔◌, ℕ, List, [], length, IfErr, IfOk, IsErrOf, MatchBool, MatchResult};
 ghost use Rattle.sha2.specs.Hashers.{Holds256};
 ghost use Rattle.sb_log.specs.LogFiles.{HasFailed, Stays};
 ghost use Rattle.sb_log.specs.declared.log_fault.LogFault.TheVariants.{Device};
 ghost use Rattle.sb_ask_log.specs.LogFile.{log_bytes, with_line_end};
-ghost use Rattle.sb_ask_log.specs.Recovery.{IsReadFault, IsSameOrCut, IsUnchangedIfDamaged, ReadsAskLog};
-ghost use Rattle.sb_ask_log.specs.Telling.{Tells};
+ghost use Rattle.sb_ask_log.specs.Recovery.{FailsToRecover, IsReadFault, ReadsAskLog, RecoversAsks};
+ghost use Rattle.sb_ask_log.specs.Telling.{IsResumable};
 
 use crate::ask_replay::AskReplay;
 use crate::opening_text;
@@ -70,21 +70,14 @@ pub fn read_asks<F: LogFile>(alloc: Global, file: &mut F) -> Result<LogInFile, L
 /// is damaged, nothing is changed. After another fault what follows its records may be cut off.
 pub fn recover_asks<F: LogFile>(alloc: Global, file: &mut F) -> Result<LogInFile, LogFault>
     ensures honest { F.IsHonest file.old ↔ F.IsHonest file.new }
-    ensures read { F.IsHonest file.old → IfOk result (λ found. (rest : List ℕ)
-        × ReadsAskLog (F.content file.old) found.text.items found.log.value.log rest
-        × (found.end.torn ≡ length rest) × (F.content file.old ≡ F.content file.new ++ rest)) }
-    // Whatever the file holds, the hasher holds the log that is answered.
-    ensures holds { IfOk result (λ found. found.text.items ≢ []
-        → Holds256 found.end.hasher (log_bytes found.text.items found.log.value.log)) }
-    // All that was read counts as told from now on.
-    ensures told { F.IsHonest file.old → IfOk result (λ found. found.text.items ≢ []
-        → Tells (F.content file.new) (F.synced file.new) false found.end.hasher found.text.items found.log.value.log) }
-    ensures empty { F.IsHonest file.old → IfOk result (λ found. found.text.items ≡ []
-        → (F.content file.new ≡ []) × (F.synced file.new ≡ 0) × (found.log.value.log ≡ [])) }
-    ensures fault { F.IsHonest file.old → IfErr result (IsReadFault (F.content file.old)) }
-    ensures damaged { F.IsHonest file.old → IfErr result (λ fault. IsUnchangedIfDamaged fault
-        (F.content file.old) (F.synced file.old) (F.content file.new) (F.synced file.new)) }
-    ensures stays { F.IsHonest file.old → OnErr result (IsSameOrCut (F.content file.old) (F.content file.new)) }
+    ensures file { F.IsHonest file.old → MatchResult result
+        (λ found. RecoversAsks (F.content file.old) found.text.items found.log.value.log found.end.torn
+        (F.content file.new) (F.synced file.new))
+        (λ fault. FailsToRecover (F.content file.old) (F.synced file.old) fault
+        (F.content file.new) (F.synced file.new)) }
+    // Whatever the file holds, the log goes on from here: all that was read counts as told from now on.
+    ensures resumes { IfOk result (λ found. found.text.items ≢ []
+        → IsResumable F.IsHonest F.content F.synced file.new found.end found.text.items found.log.value.log) }
     ensures device { IsErrOf result Device
         → HasFailed (F.has_failed file.new) (F.IsHonest file.old) (F.content file.old) }
 {

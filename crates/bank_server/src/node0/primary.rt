@@ -1,5 +1,5 @@
 //! The log, node 0, which executes it, and who keeps it.
-ghost use Rattle.std.specs.Prelude.{◌≡◌, ◌≢◌, ◌≤◌, ◌↔◌, [], List, length, IfOk, IfErr, IsErrOf, MatchOption, OnOk, OnErr};
+ghost use Rattle.std.specs.Prelude.{◌≡◌, ◌≢◌, ◌≤◌, ◌↔◌, [], List, length, IfOk, IfErr, IsErrOf, MatchOption, MatchResult, OnOk, OnErr};
 ghost use Rattle.sb_calls.specs.declared.ask.Key.{Key as AnyKey};
 ghost use Rattle.sb_calls.specs.declared.call.Call.{Call as AnyCall};
 ghost use Rattle.sb_rows.specs.Rows.{SameCustomers};
@@ -295,13 +295,13 @@ impl<S: CheckpointStore, K: Keeper> Primary<S, K> {
     pub fn save(&mut self) -> Result<u64, SaveFault>
         ensures saved { OnOk result (Saves (StoreDoes S.model) self.old.node self.new.node) }
         ensures size { IfOk result (λ size. size ≡ length_of self.old.node.board) }
-        // An honest store holds the checkpoint then.
-        ensures stored { OnOk result (S.model.IsHonest self.old.node.store
-            → StoresCheckpoint S.model.slot self.old.node self.new.node) }
+        // An honest store holds the checkpoint then, or fails otherwise than by other bytes.
+        ensures honest { S.model.IsHonest self.old.node.store → MatchResult result
+            (λ size. StoresCheckpoint S.model.slot self.old.node self.new.node)
+            (λ fault. fault ≢ SaveFault.ReadBack) }
         ensures fault { IfErr result (λ fault. IsSaveFaultOf (StoreDoes S.model)
             self.old.node fault self.new.node) }
         ensures busy { IsErrOf result SaveFault.Busy ↔ (unfinished_of self.old.node.board ≢ 0) }
-        ensures honest { S.model.IsHonest self.old.node.store → ¬ IsErrOf result SaveFault.ReadBack }
         ensures unchanged { self.new ≡ record self.old { node = record self.old.node { store = self.new.node.store } } }
     {
         let put = self.node.put_checkpoint()?;

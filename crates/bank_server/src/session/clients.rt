@@ -1,7 +1,7 @@
 //! Clients who are served at once.
 ghost use Rattle.std.specs.Prelude.{◌≡◌, ◌⊎◌, ◌≤◌, ◌<◌, ◌∷◌, ◌++◌, ◌↔◌, [], ℕ, List, drop, length, take, IfErr, IfOk, IfSome, IsTrue, OnErr, OnOk, slice_get, slice_set};
 ghost use Rattle.std.specs.List.{All};
-ghost use Rattle.bank_server.specs.Clients.{AreCalmBut, ClientOf, IsReady, IsServed, StaysReady, StaysServed, ServesTurn, fresh_client, no_past, past_with, sends};
+ghost use Rattle.bank_server.specs.Clients.{AreCalmBut, ClientOf, IsReady, IsServed, StaysReady, StaysServed, ServesTurn, TurnLeaves, fresh_client, no_past, past_with, sends};
 ghost use Rattle.bank_server.specs.Primary.{opening_rows_of};
 ghost use Rattle.bank_server.specs.ServesOn.{ServesOn};
 ghost use Rattle.bank_server.specs.SessionFaults.{IsSettleFault, IsTurnFault};
@@ -164,16 +164,14 @@ impl Clients {
         // The log is that of all asks taken, and each client was given exactly the outcomes of its own.
         ensures served { OnOk result (ServesTurn (IsServed (opening_rows_of primary.old)) (A.coming arrivals.old)
             (A.coming arrivals.new) primary.old.log self.old.all primary.new.log self.new.all) }
-        ensures sent { A.sent arrivals.new ≡ A.sent arrivals.old }
-        ensures as_many { length self.new.all ≡ length self.old.all }
         // The whole log is kept, unless nobody was told anything and nobody ended.
-        ensures kept { OnOk result (K.model.Keeps primary.new.keeper primary.new.log ⊎ (self.new.stirred ≡ [])) }
-        ensures calm { OnOk result (AreCalmBut self.new.stirred self.old.all self.new.all) }
-        ensures kept_after_fault { IfErr result (λ fault. IsSettleFault fault
-            → K.model.Keeps primary.new.keeper primary.new.log) }
+        ensures leaves { TurnLeaves result (A.sent arrivals.old) (A.sent arrivals.new)
+            (K.model.Keeps primary.new.keeper primary.new.log) self.old.all self.new }
         // What was kept stays kept, and a crew that keeps no job leaves none out, after a fault too.
         ensures serves { ServesOn K.model C.keeps result primary.old primary.new }
-        ensures fault { IfErr result IsTurnFault }
+        // After a fault that isn't the log's the whole log is kept.
+        ensures fault { IfErr result (λ fault. IsTurnFault fault
+            × (IsSettleFault fault → K.model.Keeps primary.new.keeper primary.new.log)) }
     {
         self.stirred.clear();
         let served = serve_turn(

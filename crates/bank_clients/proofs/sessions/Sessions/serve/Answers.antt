@@ -48,4 +48,4 @@ returns-clause-served g c =
     (round_goes_on opening (outside inside.connections) (outside c.admit_all.new.connections) (outside c.turn.new.arrivals)
     (outside c.deliver_new.new.connections) (outside last.connections) c.args.primary.now.log c.turn.new.primary.log
     inside.clients.all c.admit_all.new.clients.all c.turn.new.self.all c.deliver_new.new.clients.all last.clients.all
-    c.admit_all.ensures.joined c.turn.ensures.sent c.in_ok-turn.ensures.served c.deliver_new.ensures.sent c.deliver_rest.ensures.sent)
+    c.admit_all.ensures.joined c.turn.ensures.leaves.sent c.in_ok-turn.ensures.served c.deliver_new.ensures.sent c.deliver_rest.ensures.sent)

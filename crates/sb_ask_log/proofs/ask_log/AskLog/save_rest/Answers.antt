@@ -1,6 +1,6 @@
 use Rattle.std.proofs.Common.{◌≡◌, ◌⊎◌, ⊎_elim, inr, ◌≢◌, ◌++◌, ◌∙◌, true, ℕ, List, [], length, drop, take, refl, ap, sym, subst, arith, ◌≤◌, true≢false, length-drop}
 use Rattle.std.proofs.lemmas.List.{drop_at, take-append-drop}
-use Rattle.std.proofs.lemmas.Result.{MatchResult-at_ok}
+use Rattle.std.proofs.lemmas.Result.{MatchResult-at_ok, err_from_is_err_and}
 use Rattle.sha2.specs.Hashers.{Holds256}
 use Rattle.sha2.specs.declared.Sha256.{Sha256}
 use Rattle.sb_calls.specs.declared.ask.Key.{Key}
@@ -11,7 +11,7 @@ use Rattle.sb_ask_log.specs.LogFile.{log_bytes}
 use Rattle.sb_ask_log.specs.Telling.{AskLogOf, KeepsAsks}
 use Rattle.sb_ask_log.proofs.Bodies.{log_bytes_more}
 use Rattle.sb_ask_log.proofs.Fields.{fits_record}
-use Rattle.sb_ask_log.proofs.Saving.{IsRest, always, append_failed, sync_failed, tells_more}
+use Rattle.sb_ask_log.proofs.Saving.{IsRest, after_err, append_failed, sync_failed, tells_more}
 use Rattle.sb_ask_log.proofs.ask_log.AskLog.save_rest.Goals as goal
 
 -- what is behind the head of a record
@@ -34,8 +34,8 @@ append-requires-clause-body g c =
     let few = fits_record rest c.in_ok-push_asks.ensures.valid (omega (arith, length-drop c.self.inside.saved log, c.length-length.ensures.valid.limit)) in
     omega (arith, ap length body, few)
 
-pub returns-in_err-append-clause-stays : goal.returns-in_err-append-clause-stays
-returns-in_err-append-clause-stays g c keeps =
+pub returns-in_err-append-clause-keeps : goal.returns-in_err-append-clause-keeps
+returns-in_err-append-clause-keeps g c keeps =
     let log = c.args.log.now.log in
     let s = c.self.inside in
     let rest = drop s.saved log in
@@ -67,12 +67,13 @@ returns-in_err-append-clause-stays g c keeps =
           (g.F.LogFile.synced c.append.new.self.file) s.log.failed c.append.new.self.failed s.log.hasher c.append.new.self.hasher s.text.items
           log s.saved (drop HEAD c.deref_mut.result.now) c.in_err-append.field-0.0 is_rest tells a.0 a.1 a.2 ill;
     } in
-    always c.from_residual-in_err-append.result _
+    let p = err_from_is_err_and c.from_residual-in_err-append.result c.from_residual-in_err-append.ensures.1 in
+    after_err c.from_residual-in_err-append.result _ _ p.0 p.1
     (subst (λ (a : AskLogOf g.row.F.Denot). KeepsAsks {F = g.row.F.Denot} g.F.LogFile.IsHonest g.F.LogFile.content g.F.LogFile.synced
     (record { log = c.append.new.self; text = s.text.items; hasher = s.hasher; saved = s.saved }) (take a.saved log)) c.self.view_is now)
 
-pub returns-in_err-sync-clause-stays : goal.returns-in_err-sync-clause-stays
-returns-in_err-sync-clause-stays g c keeps =
+pub returns-in_err-sync-clause-keeps : goal.returns-in_err-sync-clause-keeps
+returns-in_err-sync-clause-keeps g c keeps =
     let log = c.args.log.now.log in
     let s = c.self.inside in
     let rest = drop s.saved log in
@@ -106,12 +107,13 @@ returns-in_err-sync-clause-stays g c keeps =
           (g.F.LogFile.synced c.sync.new.self.file) s.log.failed c.sync.new.self.failed s.log.hasher c.sync.new.self.hasher s.text.items
           log s.saved (drop HEAD c.deref_mut.result.now) c.in_err-sync.field-0.0 is_rest tells a.0 b.0 a.1 b.1 b.2 ill;
     } in
-    always c.from_residual-in_err-sync.result _
+    let p = err_from_is_err_and c.from_residual-in_err-sync.result c.from_residual-in_err-sync.ensures.1 in
+    after_err c.from_residual-in_err-sync.result _ _ p.0 p.1
     (subst (λ (a : AskLogOf g.row.F.Denot). KeepsAsks {F = g.row.F.Denot} g.F.LogFile.IsHonest g.F.LogFile.content g.F.LogFile.synced
     (record { log = c.sync.new.self; text = s.text.items; hasher = s.hasher; saved = s.saved }) (take a.saved log)) c.self.view_is now)
 
-pub returns-clause-saved : goal.returns-clause-saved
-returns-clause-saved g c keeps =
+pub returns-clause-keeps : goal.returns-clause-keeps
+returns-clause-keeps g c keeps =
     let log = c.args.log.now.log in
     let s = c.self.inside in
     let rest = drop s.saved log in
@@ -154,14 +156,22 @@ returns-clause-saved g c keeps =
           log s.saved (drop HEAD c.deref_mut.result.now) is_rest tells a.0 b.0 a.1 b.1 b.2;
     }
 
-pub returns-in_err-append-clause-device : goal.returns-in_err-append-clause-device
-returns-in_err-append-clause-device g c e =
-    subst (λ (a : AskLogOf g.row.F.Denot). (a.log.failed ≡ true) ⊎ (g.F.LogFile.has_failed c.append.new.self.file ≡ true)) c.self.view_is
-    c.in_err-append.ensures.failed.1
+pub returns-in_err-append-clause-fault : goal.returns-in_err-append-clause-fault
+returns-in_err-append-clause-fault g c =
+    let p = err_from_is_err_and c.from_residual-in_err-append.result c.from_residual-in_err-append.ensures.1 in
+    rw (p.1, p.2, c.in_err-append.ensures.fault) (
+      c.in_err-append.ensures.failed.0,
+      subst (λ (a : AskLogOf g.row.F.Denot). (a.log.failed ≡ true) ⊎ (g.F.LogFile.has_failed c.append.new.self.file ≡ true)) c.self.view_is
+          c.in_err-append.ensures.failed.1,
+    )
 
-pub returns-in_err-sync-clause-device : goal.returns-in_err-sync-clause-device
-returns-in_err-sync-clause-device g c e =
-    ⊎_elim
-    (λ (ill : c.append.new.self.failed ≡ true). absurd (true≢false (sym ill ∙ c.in_ok-append.ensures.ok.1)))
-    (λ (fails : g.F.LogFile.has_failed c.sync.new.self.file ≡ true). inr fails)
-    c.in_err-sync.ensures.failed.1
+pub returns-in_err-sync-clause-fault : goal.returns-in_err-sync-clause-fault
+returns-in_err-sync-clause-fault g c =
+    let p = err_from_is_err_and c.from_residual-in_err-sync.result c.from_residual-in_err-sync.ensures.1 in
+    rw (p.1, p.2, c.in_err-sync.ensures.fault) (
+      c.in_err-sync.ensures.failed.0,
+      ⊎_elim
+          (λ (ill : c.append.new.self.failed ≡ true). absurd (true≢false (sym ill ∙ c.in_ok-append.ensures.ok.1)))
+          (λ (fails : g.F.LogFile.has_failed c.sync.new.self.file ≡ true). inr fails)
+          c.in_err-sync.ensures.failed.1,
+    )
