@@ -5,7 +5,7 @@ use Rattle.std.specs.Io.KnownBytes.{Consumes}
 use Rattle.std.proofs.KnownBytes.{Consumes-trans}
 use Rattle.sb_calls.specs.declared.call.Call.{Call}
 use Rattle.sb_frames.specs.Grammar.{spelling}
-use Rattle.sb_frames.specs.Streaming.{HandsOut, StreamState}
+use Rattle.sb_frames.specs.Streaming.{HandsOutFrame, StreamState}
 use Rattle.sb_frames.specs.declared.frame.AskOutcome.{AskOutcome}
 use Rattle.sb_frames.specs.declared.frame.Frame.{Frame}
 use Rattle.sb_frames.specs.declared.frame.Frame.TheVariants.{Outcome}
@@ -31,7 +31,7 @@ one_less batch left n m count below is =
 
 -- the next frame is told
 pub next_told : (start batch left : BatchOf) (frame : Frame) (old new : StreamState) (outcome : AskOutcome) (bytes a b c : List ℕ)
-    → TellsFirst start bytes old.unread a b batch → HandsOut old frame new → batch.calls ≢ [] → frame ≡ Outcome batch.client batch.first outcome
+    → TellsFirst start bytes old.unread a b batch → HandsOutFrame old frame new → batch.calls ≢ [] → frame ≡ Outcome batch.client batch.first outcome
     → c ≡ b ++ (outcome_line batch.first outcome ++ 10 ∷ []) → left ≡ after_outcomes 1 batch → TellsFirst start bytes new.unread a c left
 next_told start batch left frame old new outcome bytes a b c told handed some is line left_is =
     let parts : old.unread ≡ spelling (Outcome batch.client batch.first outcome) ++ new.unread =
@@ -41,7 +41,7 @@ next_told start batch left frame old new outcome bytes a b c told handed some is
 
 -- the next frame isn't told
 pub next_refused : (start batch left : BatchOf) (frame : Frame) (old new : StreamState) (fault : TalkFault) (bytes a b c : List ℕ)
-    → TellsFirst start bytes old.unread a b batch → HandsOut old frame new → TellsFrame batch frame (Err fault) b c left
+    → TellsFirst start bytes old.unread a b batch → HandsOutFrame old frame new → TellsFrame batch frame (Err fault) b c left
     → TakesOutcomes start (Err fault) bytes new a c left
 next_refused start batch left frame old new Connection bytes a b c told handed never = absurd never
 next_refused start batch left frame old new OutOfMemory bytes a b c told handed (same, stays) = (

@@ -4,7 +4,7 @@ use Rattle.std.specs.Prelude.{◌≢◌}
 use Rattle.sb_frames.proofs.Frames.{decoded_again, decoded_settled, one_frame, spelling_size}
 use Rattle.sb_frames.specs.Decoding.{decode_result, frame_size}
 use Rattle.sb_frames.specs.Grammar.{spelling}
-use Rattle.sb_frames.specs.Streaming.{FailsBy, HandsOut, StreamState}
+use Rattle.sb_frames.specs.Streaming.{FailsBy, HandsOutFrame, StreamState}
 use Rattle.sb_frames.specs.declared.fault.FrameFault.{FrameFault}
 use Rattle.sb_frames.specs.declared.fault.FrameFault.TheVariants.{Short}
 use Rattle.sb_frames.specs.declared.fault.StreamFault.{StreamFault}
@@ -27,7 +27,7 @@ some_bytes frame rest none =
     omega (arith, sized, empty, length-append (spelling frame) rest)
 
 -- another frame came
-pub another_frame : (batch : BatchOf) (frame : Frame) (old new : StreamState) → HandsOut old frame new
+pub another_frame : (batch : BatchOf) (frame : Frame) (old new : StreamState) → HandsOutFrame old frame new
     → ((outcome : AskOutcome) → frame ≢ Outcome batch.client batch.first outcome) → IsNoOutcome batch old.unread
 another_frame batch frame old new handed other =
     let (bytes, spells, parts) = handed.spelled in

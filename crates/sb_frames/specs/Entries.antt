@@ -2,7 +2,7 @@
 use Rattle.std.specs.Prelude.{◌≡◌, ℕ, Some, Ok, List}
 use Rattle.sb_calls.specs.Op.{op_of}
 use Rattle.sb_calls.specs.declared.call.Call.{Call}
-use Rattle.sb_frames.specs.Streaming.{StreamState, HandsOut, next_of}
+use Rattle.sb_frames.specs.Streaming.{StreamState, HandsOutFrame, next_of}
 use Rattle.sb_frames.specs.declared.entry_op.EntryOp.{EntryOp}
 use Rattle.sb_frames.specs.declared.frame.Frame.TheVariants.{Entry}
 
@@ -19,4 +19,4 @@ pub record TakesEntry (names : List (List ℕ)) (before : StreamState)
   pub next : next_of before ≡ (Ok (Some (Entry entry.number call)), after)
   pub looked_up : entry.op ≡ op_of names call
   -- the bytes that the stream skipped are the frame's spelling
-  pub handed_out : HandsOut before (Entry entry.number call) after
+  pub handed_out : HandsOutFrame before (Entry entry.number call) after

@@ -53,7 +53,7 @@ abbrev pub next_of : StreamState → Result (Option Frame) StreamFault × Stream
 next_of old = if old.failed then (Err Failed, old) else next_by (decode_result old.unread) old.unread
 
 -- the frame is handed out, and the bytes passed over are its spelling
-pub record HandsOut (old : StreamState) (frame : Frame) (new : StreamState) : Type 0 where
+pub record HandsOutFrame (old : StreamState) (frame : Frame) (new : StreamState) : Type 0 where
   pub valid : IsFrame frame
   pub spelled : (bytes : List ℕ) × Spells frame bytes × (old.unread ≡ bytes ++ new.unread)
   pub not_failed : new.failed ≡ false

@@ -1,6 +1,6 @@
 //! A stream of bytes, read as frames.
 ghost use Rattle.std.specs.Prelude.{◌≡◌, ◌↔◌, ℕ, [], Ok, Err, Some, IsTrue, false, true, IfNone, IfOk, IfSome, OnErr, length};
-ghost use Rattle.sb_frames.specs.Streaming.{StreamState, empty_stream, Feeds, next_of, Step, Feed, Next, HandsOut, IsShort, FailsBy};
+ghost use Rattle.sb_frames.specs.Streaming.{StreamState, empty_stream, Feeds, next_of, Step, Feed, Next, HandsOutFrame, IsShort, FailsBy};
 ghost use Rattle.sb_calls.specs.Op.{IsOpWithin};
 ghost use Rattle.sb_calls.specs.declared.call.Call.{Call as AnyCall};
 ghost use Rattle.sb_frames.specs.Entries.{HasEntry, TakesEntry};
@@ -74,7 +74,7 @@ impl Stream {
         ensures state { (result, self.new) ≡ next_of self.old }
         ensures step { Step self.old (Next result) self.new }
         // The bytes that the stream skipped are the frame's spelling.
-        ensures frame { IfOk result (λ next. IfSome next (λ frame. HandsOut self.old frame self.new)) }
+        ensures frame { IfOk result (λ next. IfSome next (λ frame. HandsOutFrame self.old frame self.new)) }
         // Nothing changes if there is no frame yet.
         ensures short { IfOk result (λ next. IfNone next (IsShort self.old × (self.new ≡ self.old))) }
         // Each fault comes exactly if its reason holds; memory is never refused.

@@ -9,7 +9,7 @@ use Rattle.sb_calls.specs.declared.op.Op.{Op}
 use Rattle.sb_frames.proofs.Frames.{spelling_size}
 use Rattle.sb_frames.proofs.Sizes.{body_size}
 use Rattle.sb_frames.specs.Grammar.{IsFrame, body}
-use Rattle.sb_frames.specs.Streaming.{HandsOut, Next, Step, StreamState}
+use Rattle.sb_frames.specs.Streaming.{HandsOutFrame, Next, Step, StreamState}
 use Rattle.sb_frames.specs.declared.entry_op.EntryOp.{EntryOp}
 use Rattle.sb_frames.specs.declared.frame.Frame.{Frame}
 use Rattle.sb_frames.specs.declared.frame.Frame.TheVariants.{Entry}
@@ -37,7 +37,7 @@ take_one names a b c batch number call op h step valid is =
     }
 
 -- a frame takes bytes
-pub takes_bytes : (old : StreamState) (frame : Frame) (new : StreamState) → HandsOut old frame new → suc (length new.unread) ≤ length old.unread
+pub takes_bytes : (old : StreamState) (frame : Frame) (new : StreamState) → HandsOutFrame old frame new → suc (length new.unread) ≤ length old.unread
 takes_bytes old frame new h =
     let bytes = h.spelled.0 in
     let size : length bytes ≡ 2 + length (body frame) = ap length h.spelled.1.spelled ∙ spelling_size frame in

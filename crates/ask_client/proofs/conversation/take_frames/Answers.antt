@@ -1,7 +1,7 @@
 use Rattle.std.proofs.Common.{◌<◌, Option, length, refl, subst, arith}
 use Rattle.std.specs.Prelude.{IfSome}
 use Rattle.std.proofs.lemmas.Result.{err_from_is_err_and}
-use Rattle.sb_frames.specs.Streaming.{HandsOut}
+use Rattle.sb_frames.specs.Streaming.{HandsOutFrame}
 use Rattle.sb_frames.specs.declared.frame.Frame.{Frame}
 use Rattle.ask_client.proofs.TakenFrames.{next_refused, next_told, one_less, some_calls}
 use Rattle.ask_client.proofs.UnexpectedBytes.{bad_stream}
@@ -11,8 +11,8 @@ pub loop-preserved : goal.loop-preserved
 loop-preserved c =
     let loop = c.loop in
     let kept = loop.invariant in
-    let handed : HandsOut loop.frames c.in-Ok-Some.frame c.next.new.self =
-    subst (λ (o : Option Frame). IfSome o (λ frame. HandsOut loop.frames frame c.next.new.self))
+    let handed : HandsOutFrame loop.frames c.in-Ok-Some.frame c.next.new.self =
+    subst (λ (o : Option Frame). IfSome o (λ frame. HandsOutFrame loop.frames frame c.next.new.self))
     c.in-Ok-Some.field-0-is c.in-Ok-Some.ensures.frame in
     let below : loop.counter < length c.args.batch.now.calls = omega (arith, c.loop-test.true, c.len-end.ensures) in
     let (outcome, is, line, left) = c.in_ok-tell_outcome-in-Ok-Some.ensures in
@@ -28,8 +28,8 @@ pub returns-in_err-tell_outcome-in-Ok-Some : goal.returns-in_err-tell_outcome-in
 returns-in_err-tell_outcome-in-Ok-Some c =
     let p = err_from_is_err_and c.from_residual.result c.from_residual.ensures.1 in
     let loop = c.loop in
-    let handed : HandsOut loop.frames c.in-Ok-Some.frame c.next.new.self =
-    subst (λ (o : Option Frame). IfSome o (λ frame. HandsOut loop.frames frame c.next.new.self))
+    let handed : HandsOutFrame loop.frames c.in-Ok-Some.frame c.next.new.self =
+    subst (λ (o : Option Frame). IfSome o (λ frame. HandsOutFrame loop.frames frame c.next.new.self))
     c.in-Ok-Some.field-0-is c.in-Ok-Some.ensures.frame in
     rw (p.1, p.2) (next_refused c.args.batch.now loop.batch c.tell_outcome.new.batch c.in-Ok-Some.frame loop.frames c.next.new.self
     c.in_err-tell_outcome-in-Ok-Some.field-0.0 c.args.frames.now.unread c.args.lines.now.items loop.lines.items c.tell_outcome.new.lines.items

@@ -2,7 +2,7 @@ use Rattle.std.proofs.Common.{Option, Err, ◌++◌, ◌∷◌, [], sym, ap, sub
 use Rattle.std.specs.Prelude.{IfSome}
 use Rattle.std.proofs.lemmas.Result.{err_from_is_err_and}
 use Rattle.sb_rows.specs.Rows.{rows_of}
-use Rattle.sb_frames.specs.Streaming.{HandsOut, StreamState}
+use Rattle.sb_frames.specs.Streaming.{HandsOutFrame, StreamState}
 use Rattle.sb_frames.specs.declared.fault.StreamFault.TheVariants.{Bad}
 use Rattle.sb_frames.specs.declared.frame.Frame.{Frame}
 use Rattle.sb_replica.specs.Replica.{ReplicaOf}
@@ -29,8 +29,8 @@ loop-frame-preserved g c =
     let loop = c.loop-frame in
     let kept = loop.invariant in
     let step = c.in_ok-take_frame-in-Ok-Some.ensures in
-    let handed : HandsOut loop.inbox.stream c.in-Ok-Some.frame c.next.new.self =
-    subst (λ (o : Option Frame). IfSome o (λ frame. HandsOut loop.inbox.stream frame c.next.new.self))
+    let handed : HandsOutFrame loop.inbox.stream c.in-Ok-Some.frame c.next.new.self =
+    subst (λ (o : Option Frame). IfSome o (λ frame. HandsOutFrame loop.inbox.stream frame c.next.new.self))
     c.in-Ok-Some.field-0-is c.in-Ok-Some.ensures.frame in
     let now = c.take_frame.new.inbox in
     record {
@@ -62,8 +62,8 @@ pub returns-in_err-take_frame-in-Ok-Some-clause-stops : goal.returns-in_err-take
 returns-in_err-take_frame-in-Ok-Some-clause-stops g c =
     let p = err_from_is_err_and c.from_residual.result c.from_residual.ensures.1 in
     let loop = c.loop-frame in
-    let handed : HandsOut loop.inbox.stream c.in-Ok-Some.frame c.next.new.self =
-    subst (λ (o : Option Frame). IfSome o (λ frame. HandsOut loop.inbox.stream frame c.next.new.self))
+    let handed : HandsOutFrame loop.inbox.stream c.in-Ok-Some.frame c.next.new.self =
+    subst (λ (o : Option Frame). IfSome o (λ frame. HandsOutFrame loop.inbox.stream frame c.next.new.self))
     c.in-Ok-Some.field-0-is c.in-Ok-Some.ensures.frame in
     rw (p.1, p.2) (λ outcomes. refused_stops_client (opening_rows_of c.args.primary.now) c.args.most
     (inbox_state c.args.primary.now.log c.args.inbox.now outcomes) (inbox_state loop.primary.log loop.inbox outcomes)
