@@ -30,7 +30,7 @@ const STEPS: [(&[u8], u32); 5] = [
     (BALANCE, 1),
 ];
 
-// Has a client ask for this so many times, sends it to the followers, and compares if that is due.
+// Has a client ask this that often, sends it to the followers, and compares if that is due.
 fn go_on<R: Abort + Wait>(
     rt: &R,
     alloc: Global,

@@ -58,7 +58,7 @@ impl<'a, R: Wait> FollowerChannels<'a, R> {
         self.send_to_all(Vec::from_slice(self.alloc, &encode(&Frame::Flush))?)
     }
 
-    /// Compares node 0 with the followers of so many nodes, once they have executed what was sent:
+    /// Compares node 0 with the followers of this many nodes, once they have executed what was sent:
     /// replies to numbers above this one, and all columns.
     ///
     /// Fails with [`RunFault::Strayed`] at the first that differs.
