@@ -23,7 +23,7 @@ use std::alloc::Global;
 use std::io::{ErrorKind, Read, Write};
 use std::net::{OpenStream, Shutdown};
 
-/// After so many connections in a row that brought no outcome a client gives up.
+/// A client gives up after this many connections in a row that brought no outcome.
 pub(crate) const CONNECTIONS: usize = 10;
 
 /// A client, the calls that have no outcome yet, and the connection that is open.

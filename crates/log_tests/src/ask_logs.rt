@@ -188,7 +188,7 @@ fn a_log_goes_on(rt: HostRuntime) {
     assert!(rt; log.file().bytes().len() == 227);
 }
 
-// A log whose call with this number fails as both asks are saved crashes, and keeps so many bytes. This many asks are
+// A log whose call with this number fails as both asks are saved crashes, and keeps this many bytes. This many asks are
 // left.
 fn fails_at(rt: &impl Abort, alloc: Global, at: u64, kept: usize, count: u64) {
     let asks = sequencer_of(rt, alloc, &[FIRST, SECOND]);
@@ -217,7 +217,7 @@ fn each_call_fails_in_turn(rt: HostRuntime) {
     }
 }
 
-// How many bytes a recovery leaves of so many.
+// How many bytes a recovery leaves of a file of this size.
 fn left_of(size: usize) -> usize {
     if size < 105 {
         0
@@ -228,7 +228,7 @@ fn left_of(size: usize) -> usize {
     }
 }
 
-// The beginning of a log's file that has so many bytes is read, and recovered.
+// This beginning of a log's file is read, and recovered.
 fn is_read(rt: &impl Abort, alloc: Global, beginning: &[u8]) {
     let size = beginning.len();
     let mut file = file_of(rt, alloc, beginning);

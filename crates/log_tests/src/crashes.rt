@@ -30,7 +30,7 @@ fn append_all(rt: &impl Abort, log: &mut DurableSequencer, requests: &[u8]) {
     }
 }
 
-// The log has exactly the calls of these letters, and so many of them are synced.
+// The log has exactly the calls of these letters, and the first of them, this many, are synced.
 fn has(rt: &impl Abort, log: &DurableSequencer, letters: &[u8], synced: u64) {
     assert!(rt; log.length() == letters.len() as u64, "the length");
     assert!(rt; log.synced() == synced, "the synced length");

@@ -78,7 +78,7 @@ fn append<F: LogFile>(
     log.append(&mut buffer)
 }
 
-// The file of the three bodies, synced after so many of them.
+// The file of the three bodies, synced after this many of them.
 fn logged(rt: &impl Abort, alloc: Global, synced: usize) -> MemoryFile {
     let mut log = DurableLog::new(MemoryFile::new(alloc), sha2::Digest::new());
     for (at, body) in BODIES.iter().enumerate() {
@@ -147,7 +147,7 @@ fn a_file_has_these_bytes(rt: HostRuntime) {
     assert!(rt; logged(&rt, alloc, 3).bytes() == expected.as_slice());
 }
 
-// A file of which so much was synced crashes, which keeps so many of its bytes.
+// A file whose first bodies, this many, were synced crashes, and keeps at most this many of its bytes.
 fn crashes(rt: &impl Abort, alloc: Global, synced: usize, kept: usize) {
     let mut file = logged(rt, alloc, synced);
     file.crash(kept);
@@ -218,7 +218,7 @@ fn a_body_that_is_refused_is_damage(rt: HostRuntime) {
     assert!(rt; file.bytes().len() == 128);
 }
 
-// A log whose call with this number fails, an append leaving so many bytes. Each body is synced until then.
+// A log whose call with this number fails, an append leaving this many bytes. Each body is synced until then.
 fn failing_log(rt: &impl Abort, alloc: Global, at: u64, kept: usize) -> (MemoryFile, usize) {
     let file = FaultyFile::new(MemoryFile::new(alloc), at, kept);
     let mut log = DurableLog::new(file, sha2::Digest::new());

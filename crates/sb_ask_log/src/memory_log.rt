@@ -167,7 +167,7 @@ fn blank_record(body: &[u8]) -> ArrayVec<u8, ASK_RECORD>
     record
 }
 
-// How many bytes the opening and the first so many asks of a log take, or all if there are fewer.
+// How many bytes the opening and the first asks of a log take, this many or all if there are fewer.
 fn size_of_first(log: &Sequencer, count: u64) -> usize
     ensures { result ≡ length (bytes_of_asks (take count log.now.log)) }
 {

@@ -1,11 +1,11 @@
 //! The log, node 0, which executes it, and who keeps it.
-ghost use Rattle.std.specs.Prelude.{◌≡◌, ◌≢◌, ◌≤◌, ◌↔◌, [], List, length, IfOk, IfErr, IsErrOf, MatchOption, MatchResult, OnOk, OnErr};
+ghost use Rattle.std.specs.Prelude.{◌≡◌, ◌≢◌, ◌≤◌, ◌↔◌, [], List, length, IfOk, IfErr, IsErrOf, MatchResult, OnOk, OnErr};
 ghost use Rattle.sb_calls.specs.declared.ask.Key.{Key as AnyKey};
 ghost use Rattle.sb_calls.specs.declared.call.Call.{Call as AnyCall};
 ghost use Rattle.sb_rows.specs.Rows.{SameCustomers};
 ghost use Rattle.cown_board.specs.Board.{length_of, unfinished_of};
 ghost use Rattle.sb_checkpoint.specs.Stores.{StoreDoes};
-ghost use Rattle.sb_replica.specs.Replica.{rest_of, replica_at_opening};
+ghost use Rattle.sb_replica.specs.Replica.{replica_at_opening};
 ghost use Rattle.sb_sequencer.specs.Numbering.{IsLog, calls_of, first_asks};
 ghost use Rattle.sb_sequencer.specs.Sequencer.{empty_sequencer};
 ghost use Rattle.sb_ask_log.specs.Keeping.{KeepsBeginning};

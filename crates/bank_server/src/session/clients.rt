@@ -1,7 +1,7 @@
 //! Clients who are served at once.
-ghost use Rattle.std.specs.Prelude.{◌≡◌, ◌⊎◌, ◌≤◌, ◌<◌, ◌∷◌, ◌++◌, ◌↔◌, [], ℕ, List, drop, length, take, IfErr, IfOk, IfSome, IsTrue, OnErr, OnOk, slice_get, slice_set};
+ghost use Rattle.std.specs.Prelude.{◌≡◌, ◌⊎◌, ◌≤◌, ◌<◌, ◌∷◌, ◌++◌, ◌↔◌, [], drop, length, take, IfErr, IfOk, IfSome, IsTrue, OnErr, OnOk, slice_get, slice_set};
 ghost use Rattle.std.specs.List.{All};
-ghost use Rattle.bank_server.specs.Clients.{AreCalmBut, ClientOf, IsReady, IsServed, StaysReady, StaysServed, ServesTurn, TurnLeaves, fresh_client, no_past, past_with, sends};
+ghost use Rattle.bank_server.specs.Clients.{AreCalmBut, IsReady, IsServed, StaysReady, StaysServed, ServesTurn, TurnLeaves, fresh_client, no_past, past_with, sends};
 ghost use Rattle.bank_server.specs.Primary.{opening_rows_of};
 ghost use Rattle.bank_server.specs.ServesOn.{ServesOn};
 ghost use Rattle.bank_server.specs.SessionFaults.{IsSettleFault, IsTurnFault};
@@ -144,8 +144,8 @@ impl Clients {
         take_sent(&mut self.all, place, count);
     }
 
-    /// A turn: takes what has come, in the order of arrival, of each client at most so many pieces
-    /// as there are clients. If a flush came or a client ended, the whole log is executed once and
+    /// A turn: takes what has come, in the order of arrival, of each client at most as many
+    /// pieces as there are clients. If a flush came or a client ended, the whole log is executed once and
     /// kept once, and then each client is given the outcomes of its own asks that a flush of its own
     /// follows. A client at fault ends; nobody else notices.
     ///

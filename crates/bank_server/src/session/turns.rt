@@ -1,5 +1,5 @@
 //! What a turn takes from clients who are served at once, and what it tells them.
-ghost use Rattle.std.specs.Prelude.{◌≡◌, ◌≤◌, ◌<◌, ◌∷◌, [], ℕ, List, length, false, IfOk, IfSome, OnOk};
+ghost use Rattle.std.specs.Prelude.{◌≡◌, ◌≤◌, ◌<◌, ◌∷◌, [], List, length, false, IfOk, IfSome, OnOk};
 ghost use Rattle.std.specs.List.{All};
 ghost use Rattle.bank_server.specs.Clients.{AreCalmBut, ClientOf, IsSound, TakesArrivals, ServesTurn, piece_of};
 ghost use Rattle.bank_server.specs.inner.ClientTurns.{AreDueWithin, HearsClient, IsServing, TellsClients};
