@@ -17,9 +17,7 @@ pub use followers::{
     COMPARED_ENTRIES, Followers, ReadyFollowers, StrayReason, agree, difference, with_followers,
 };
 pub use input::{LogNumber, PreparedInput, Standing, ask_lines, prepare};
-pub use laws::{
-    answers_are_final, client_bounds, comparisons_add_up, limits, told_outcomes_stand,
-};
+pub use laws::{answers_are_final, client_bounds, comparisons_add_up, limits, told_outcomes_stand};
 pub use node0::{AskCounts, Duty, Primary, SaveFault, WorkerCount, carry_out_log, with_team};
 pub use run::run_text;
 pub use session::{
