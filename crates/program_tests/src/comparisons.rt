@@ -56,15 +56,20 @@ fn three(rt: &impl Abort, alloc: Global, second: &[u8]) -> ReadyFollowers
 
 // Appends what client 7 asks by its request of this number: a deposit of 1.00 for dave, or alice's balance.
 fn push_ask(rt: &impl Abort, request: u32, is_deposit: bool, out: &mut Vec<u8>) {
-    let (head, rest): (&[u8], &[u8]) = if is_deposit {
-        (b"\x00\x17\x01\0\0\0\x07", b"\x02\x04dave\0\0\0\0\0\0\0\x64")
-    } else {
-        (b"\x00\x10\x01\0\0\0\x07", b"\x01\x05alice")
-    };
     let number = request.to_be_bytes();
-    for piece in [head, number.as_slice(), rest] {
-        out.extend_from_slice(piece).expect(rt, "memory for bytes");
+    if is_deposit {
+        push(rt, b"\x00\x17\x01\0\0\0\x07", out);
+        push(rt, number.as_slice(), out);
+        push(rt, b"\x02\x04dave\0\0\0\0\0\0\0\x64", out);
+    } else {
+        push(rt, b"\x00\x10\x01\0\0\0\x07", out);
+        push(rt, number.as_slice(), out);
+        push(rt, b"\x01\x05alice", out);
     }
+}
+
+fn push(rt: &impl Abort, bytes: &[u8], out: &mut Vec<u8>) {
+    out.extend_from_slice(bytes).expect(rt, "memory for bytes");
 }
 
 // The asks with the numbers from `first` to `last`, of which this one is the deposit. Behind each whole
@@ -76,11 +81,11 @@ fn asks(rt: &impl Abort, alloc: Global, first: u32, last: u32, deposit: u32, eac
     for request in first..last {
         push_ask(rt, request, request == deposit, &mut out);
         if request % each == 0 {
-            out.extend_from_slice(FLUSH).expect(rt, "memory for bytes");
+            push(rt, FLUSH, &mut out);
         }
     }
     push_ask(rt, last, last == deposit, &mut out);
-    out.extend_from_slice(FLUSH).expect(rt, "memory for bytes");
+    push(rt, FLUSH, &mut out);
     out
 }
 
