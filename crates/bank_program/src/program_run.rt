@@ -70,9 +70,9 @@ pub fn run_strictly<H: Threads + Wait + Clock + Sync, R: Read, W: Write>(
     ensures done { OnOk result (IfSome (R.remaining reader.old) (λ input.
         Writes (output_of input) (W.contents writer.old) (W.contents writer.new))) }
     ensures whole { OnOk result (IfSome (R.remaining reader.old) (λ input. is_whole input ≡ true)) }
-    ensures unended { IsErrOf result UnendedLine → IfSome (R.remaining reader.old) (λ input.
-        is_whole input ≡ false) }
-    ensures unwritten { IsErrOf result UnendedLine → W.contents writer.new ≡ W.contents writer.old }
+    // Nothing is written of an input that isn't whole.
+    ensures unended { IsErrOf result UnendedLine → IfSome (R.remaining reader.old) (λ input. is_whole input ≡ false)
+        × (W.contents writer.new ≡ W.contents writer.old) }
     // A fault of a line is the first, nothing was written unless a device failed, and a run by these words may end so.
     ensures first { IfErr result (λ fault. IfSome (R.remaining reader.old) (λ input.
         IsStrictFault (λ run. IsFirstInputFault run (output_of input)) fault)) }

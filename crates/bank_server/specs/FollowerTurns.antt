@@ -4,8 +4,8 @@ use Rattle.std.specs.List.{AllByRecursion}
 use Rattle.cown_workers.specs.Draining.{CrewStep, IsDrained, KeepsNoJob}
 use Rattle.sb_frames.specs.Streaming.{Feeds, IsShort, StreamState}
 use Rattle.sb_replica.specs.Replica.{ReplicaOf, rest_of}
-use Rattle.sb_replica.specs.Streams.{ReceivesUntil}
-use Rattle.sb_replica.specs.declared.pause.Pause.{Pause}
+use Rattle.sb_replica.specs.Receiving.{Receives}
+use Rattle.sb_replica.specs.declared.received.Received.{Received}
 
 -- a follower's replica, and the stream of its messages' bytes
 pub record FollowerOf (S : Type 0) : Type 0 where
@@ -21,14 +21,13 @@ pub record RunsAll {S : Type 0} (old : ReplicaOf S) (new : ReplicaOf S) : Type 0
   pub rest : rest_of new ≡ rest_of old
   pub held : new.held ≡ old.held
 
--- a turn: frames of the stream are received up to a pause, each as the bytes that spell it, or
--- everything unfinished is executed
+-- a turn: what comes next in the stream is received, or everything unfinished is executed
 pub data Turn : Type 0 where
-  Receives : (pause : Pause) → Turn
+  Takes : (received : Received) → Turn
   Runs : Turn
 
 abbrev pub TakesTurn : {S : Type 0} → FollowerOf S → Turn → FollowerOf S → Type 0
-TakesTurn old (Receives pause) new = ReceivesUntil old.replica old.stream pause new.replica new.stream
+TakesTurn old (Takes received) new = Receives old.replica old.stream (Ok received) new.replica new.stream
 TakesTurn old Runs new = RunsAll old.replica new.replica × (new.stream ≡ old.stream)
 
 -- these turns, one after another

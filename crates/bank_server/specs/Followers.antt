@@ -4,7 +4,7 @@ use Rattle.sb_rows.specs.Balances.{Balances}
 use Rattle.sb_checkpoint.specs.declared.memory_store.MemoryStore.{MemoryStore}
 use Rattle.cown_board.specs.BoardCalls.{board_at_opening}
 use Rattle.sb_replica.specs.Replica.{ReplicaOf}
-use Rattle.sb_replica_log.specs.Log.{none_held}
+use Rattle.sb_replica.specs.Log.{none_held}
 
 -- followers that aren't started yet: the number of nodes, with node 0, and the followers' replicas
 -- in order

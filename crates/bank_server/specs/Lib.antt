@@ -9,6 +9,7 @@ pub mod FollowerTurns
 pub mod Followers
 pub mod Input
 pub mod LogNumber
+pub mod NodeTurns
 pub mod Output
 pub mod Pending
 pub mod PreparedInput

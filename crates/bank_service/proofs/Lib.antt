@@ -1,16 +1,9 @@
 pub mod BankAfter
 pub mod EndRows
-pub mod FollowerEvents
-pub mod FollowerMessages
-pub mod FollowerOpenings
-pub mod FollowerTurns
 pub mod FoundBanks
-pub mod FramesHandedOut
-pub mod FramesHeard
 pub mod GoneCrews
 pub mod PrintedLines
 pub mod ServingAtOnce
 pub mod SessionsInOrder
 pub mod UnheardClients
 pub mod WholeOpenings
-pub mod WorkInPlace

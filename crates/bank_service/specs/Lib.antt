@@ -1,5 +1,3 @@
-pub mod FollowerEvents
-pub mod FollowerMoves
 pub mod FoundBank
 pub mod ListFaults
 pub mod LogListing

@@ -7,7 +7,6 @@ mod client_stream;
 mod first_look;
 mod followers;
 mod found_bank;
-mod laws;
 mod leaving;
 mod list_fault;
 mod listener;
@@ -25,7 +24,6 @@ mod socket_writer;
 
 pub use client_stream::ClientStream;
 pub use found_bank::{FoundBank, find_bank};
-pub use laws::{followers_move, followers_open, messages_are_events, messages_move};
 pub use list_fault::ListFault;
 pub use listener::{ClientListener, SocketListener};
 pub use log_listing::list_log;

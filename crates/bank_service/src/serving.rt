@@ -75,8 +75,8 @@ where
         (D.clients bank.listener) [] bank.primary.log None (W.contents writer) (W.contents bank.writer)) }
     ensures one_each { IfOk result (λ bank. IsLog bank.primary.log) }
     ensures whole_log { IfOk result (λ bank. HasWholeLog bank.primary) }
-    ensures names { IfOk result (λ bank. bank.primary.node.names ≡ opening.directory) }
-    ensures opening { IfOk result (λ bank. bank.primary.node.board.opening ≡ opening.columns) }
+    ensures opening { IfOk result (λ bank. (bank.primary.node.names ≡ opening.directory)
+        × (bank.primary.node.board.opening ≡ opening.columns)) }
     // A bank that saves has the checkpoint of all of that log.
     ensures store { IfOk result (λ bank. IsStoreAfter S.model plan.saves plan.sessions store
         bank.primary.node) }

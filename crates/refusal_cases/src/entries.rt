@@ -1,4 +1,4 @@
-//! A replica that receives more entries than it reads ahead.
+//! A replica that receives a stream of entries.
 
 use crate::amounts::push_amounts;
 use crate::fault::CaseFault;
@@ -10,12 +10,12 @@ use cown_workers::{InlineCrew, drain};
 use sb_calls::{Call, Reply};
 use sb_checkpoint::MemoryStore;
 use sb_frames::{AskOutcome, Frame, Stream};
-use sb_replica::{Pause, ReceiveFault, Replica};
+use sb_replica::{ReceiveFault, Received, Replica};
 use sb_rows::Opening;
 use schedule_text::push_numbered;
 use std::alloc::{AllocError, Global};
 
-// Some more than `BATCH_ENTRIES`.
+// The log makes room for them several times.
 const ENTRIES: u8 = 70;
 
 // An entry that brings alice a cent, without its number.
@@ -57,25 +57,38 @@ fn open(alloc: Global, opening: Opening) -> Result<Box<Replica<MemoryStore>>, Al
     Ok(Box::new(alloc, replica)?)
 }
 
-// The replica receives the whole stream. If it is refused memory, the same call goes on.
+// The replica receives the whole stream.
 fn receive(
     replica: &mut Replica<MemoryStore>,
     stream: &mut Stream,
     report: &mut Report,
 ) -> Result<(), CaseFault> {
-    // The checker takes the stream apart, and needs the types spelled out.
-    let _parts: Option<(Frame, Call, Reply, AskOutcome)> = None;
-    let pause = match replica.receive_stream(stream) {
-        Err(ReceiveFault::OutOfMemory) => {
-            report.refused("Replica::receive_stream")?;
-            replica.receive_stream(stream)?
+    for _ in 0..ENTRIES {
+        if !matches!(receive_one(replica, stream, report)?, Received::Entry(_)) {
+            return Err(CaseFault::Unfinished);
         }
-        received => received?,
-    };
-    if pause != Pause::Short {
+    }
+    if receive_one(replica, stream, report)? != Received::Short {
         return Err(CaseFault::Unfinished);
     }
     Ok(())
+}
+
+// The replica receives the next frame. If it is refused memory, the same call goes on.
+fn receive_one(
+    replica: &mut Replica<MemoryStore>,
+    stream: &mut Stream,
+    report: &mut Report,
+) -> Result<Received, CaseFault> {
+    // The checker takes the stream apart, and needs the types spelled out.
+    let _parts: Option<(Frame, Call, Reply, AskOutcome)> = None;
+    match replica.receive(stream) {
+        Err(ReceiveFault::OutOfMemory) => {
+            report.refused("Replica::receive")?;
+            Ok(replica.receive(stream)?)
+        }
+        received => Ok(received?),
+    }
 }
 
 fn report_replica(

@@ -1,4 +1,4 @@
-//! The bank with which logs and replicas begin.
+//! The bank with which replicas begin.
 use sb_rows::{Opening, read_opening};
 use std::process::Abort;
 

@@ -6,13 +6,14 @@ use cown_board::{CutFault, Done, Job, Runs};
 use sb_calls::{Op, Reply, read_call};
 use sb_checkpoint::{CheckpointFault, CheckpointStore, How, MemoryStore};
 use sb_frames::{Frame, encode};
-use sb_replica::{AdoptFault, Adopted, Heard, MarkFault, Replica, RestartFault};
+use sb_replica::{AdoptFault, Adopted, Heard, MarkFault, Offered, Replica, RestartFault};
 use std::process::Abort;
 
 mod cuts;
 mod faults;
 mod frames;
 mod marks;
+mod offers;
 mod restarts;
 mod states;
 mod streams;
@@ -31,6 +32,13 @@ enum Step {
     ReceiveEntry(u64, &'static str, Heard),
     // The next entries up to this number, each with this call, are accepted.
     AcceptUpTo(u64, &'static str),
+    // Offers an entry of nobody's call, which declares no cowns, with this answer and this length of
+    // the log then.
+    Offer(u64, Offered, u64),
+    // The next entries up to this number, of the same call, are taken.
+    OfferUpTo(u64),
+    // Makes room for this many entries.
+    Reserve(usize),
     // Advances to the entry that is held for the next number, with this answer.
     Advance(Option<Heard>),
     // The first ready behaviour has this number, and is out from now on.
@@ -46,6 +54,8 @@ enum Step {
     ReplyTo(u64, Option<Reply>),
     // Nothing is unfinished, and these are the length and the checking balances of the three.
     Ends(u64, [i64; 3]),
+    // Something is unfinished.
+    Unfinished,
     Length(u64),
     Cut(Result<u64, CutFault>),
     // Sets how the store's next put ends.
@@ -99,6 +109,24 @@ fn accepts_up_to(rt: &impl Abort, replica: &mut Replica<MemoryStore>, last: u64,
     }
 }
 
+fn answers_offer(
+    rt: &impl Abort,
+    replica: &mut Replica<MemoryStore>,
+    number: u64,
+    answer: Offered,
+    length: u64,
+) {
+    let offered = replica.offer_entry(number, Op::NoCustomer);
+    assert!(rt; offered == Ok(answer), "{number}");
+    assert!(rt; replica.length() == length, "{number}");
+}
+
+fn takes_up_to(rt: &impl Abort, replica: &mut Replica<MemoryStore>, last: u64) {
+    for number in replica.length() + 1..last.saturating_add(1) {
+        answers_offer(rt, replica, number, Offered::Next, number);
+    }
+}
+
 fn is_done<S: CheckpointStore>(
     rt: &impl Abort,
     replica: &mut Replica<S>,
@@ -139,9 +167,16 @@ fn comes_back(rt: &impl Abort, node: &mut Node) {
 
 fn ends(rt: &impl Abort, replica: &Replica<MemoryStore>, length: u64, checking: [i64; 3]) {
     assert!(rt; replica.length() == length);
+    assert!(rt; replica.idle());
     let columns = replica.columns().expect(rt, "memory for columns");
     let columns = columns.expect(rt, "no columns");
     assert!(rt; columns.checking() == checking.as_slice());
+}
+
+fn is_unfinished(rt: &impl Abort, replica: &Replica<MemoryStore>) {
+    assert!(rt; !replica.idle());
+    let columns = replica.columns().expect(rt, "memory for columns");
+    assert!(rt; columns.is_none());
 }
 
 fn store_contains(
@@ -197,6 +232,11 @@ fn plays_one(rt: &(impl Abort + AllocGlobal), node: &mut Node, position: usize, 
             heard,
         ),
         Step::AcceptUpTo(last, line) => accepts_up_to(rt, &mut node.replica, last, line),
+        Step::Offer(number, answer, length) => {
+            answers_offer(rt, &mut node.replica, number, answer, length);
+        }
+        Step::OfferUpTo(last) => takes_up_to(rt, &mut node.replica, last),
+        Step::Reserve(count) => is_so(rt, position, node.replica.reserve(count).is_ok()),
         Step::Advance(heard) => is_so(rt, position, node.replica.advance() == Ok(heard)),
         Step::Take(number) => takes(rt, node, number),
         Step::Finish(reply) => finishes(rt, node, reply),
@@ -206,6 +246,7 @@ fn plays_one(rt: &(impl Abort + AllocGlobal), node: &mut Node, position: usize, 
             is_so(rt, position, node.replica.reply(number) == reply);
         }
         Step::Ends(length, checking) => ends(rt, &node.replica, length, checking),
+        Step::Unfinished => is_unfinished(rt, &node.replica),
         Step::Length(length) => is_so(rt, position, node.replica.length() == length),
         Step::Cut(answer) => is_so(rt, position, node.replica.cut() == answer),
         Step::Tell(how) => node.replica.tell(how),

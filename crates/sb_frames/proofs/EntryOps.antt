@@ -352,24 +352,23 @@ abbrev sized : {A : Type 0} → A → ℕ → Result (A × ℕ) FrameFault
 sized value size = Ok (value, size)
 
 -- the entry that is read first is the frame that is decoded
-pub first_entry_is_frame : (names : List (List ℕ)) (bytes : List ℕ) (entry : EntryOp) (k : ℕ) → first_entry names bytes ≡ Ok (entry, k)
-    → (call : Call) × (decode_result bytes ≡ Ok (Entry entry.number call, k)) × (entry.op ≡ op_of names call)
+pub first_entry_is_frame : (names : List (List ℕ)) (bytes : List ℕ) (entry : EntryOp) → first_entry names bytes ≡ Ok entry
+    → (call : Call) × (k : ℕ) × (decode_result bytes ≡ Ok (Entry entry.number call, k)) × (entry.op ≡ op_of names call)
 unfolding first_entry decode_result
-first_entry_is_frame names bytes entry k e =
+first_entry_is_frame names bytes entry e =
     let inner : ℕ → List ℕ = λ size. take (size - 2) (drop 2 bytes) in
-    let size = first_step (frame_size bytes) (λ n. body_entry names (inner n) >>= λ x. sized x n) (entry, k) e in
-    let read = first_step (body_entry names (inner size.0)) (λ x. sized x size.0) (entry, k) size.2 in
-    let same = same_value (read.0, size.0) (entry, k) read.2 in
-    let found = body_entry_is_frames names (inner size.0) read.0 read.1 in (
+    let size = first_step (frame_size bytes) (λ n. body_entry names (inner n)) entry e in
+    let found = body_entry_is_frames names (inner size.0) entry size.2 in
+    let frame = Entry entry.number found.0 in (
       found.0,
-      then_read (frame_size bytes) (λ n. frame_of (inner n) >>= λ f. sized f n) size.0 (Entry entry.number found.0, k) size.1
-          (then_read (frame_of (inner size.0)) (λ f. sized f size.0) (Entry read.0.number found.0) (Entry entry.number found.0, k) found.1
-          (ap (λ (p : EntryOp × ℕ). sized (Entry p.0.number found.0) p.1) same)),
-      sym (ap (λ (p : EntryOp × ℕ). p.0.op) same) ∙ found.2,
+      size.0,
+      then_read (frame_size bytes) (λ n. frame_of (inner n) >>= λ f. sized f n) size.0 (frame, size.0) size.1
+          (then_read (frame_of (inner size.0)) (λ f. sized f size.0) frame (frame, size.0) found.1 refl),
+      found.2,
     )
 
 pub frame_has_first_entry : (names : List (List ℕ)) (bytes : List ℕ) (number : ℕ) (call : Call) (k : ℕ) → decode_result bytes ≡ Ok (Entry number call, k)
-    → first_entry names bytes ≡ Ok (entry_with number (op_of names call), k)
+    → first_entry names bytes ≡ Ok (entry_with number (op_of names call))
 unfolding first_entry decode_result
 frame_has_first_entry names bytes number call k e =
     let inner : ℕ → List ℕ = λ size. take (size - 2) (drop 2 bytes) in
@@ -378,5 +377,4 @@ frame_has_first_entry names bytes number call k e =
     let read = first_step (frame_of (inner size.0)) (λ f. sized f size.0) (frame, k) size.2 in
     let same = same_value (read.0, size.0) (frame, k) read.2 in
     let is : frame_of (inner size.0) ≡ Ok frame = read.1 ∙ ap (λ (p : Frame × ℕ). done p.0) same in
-    rw (size.1, frame_has_entry names (inner size.0) number call is)
-    (ap (λ (p : Frame × ℕ). sized (entry_with number (op_of names call)) p.1) same)
+    rw (size.1, frame_has_entry names (inner size.0) number call is) refl

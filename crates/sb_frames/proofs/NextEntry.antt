@@ -1,5 +1,6 @@
 -- The entry that a stream hands out, and where it has none.
 use Rattle.std.proofs.Common.{◌≡◌, ℕ, ◌<◌, ◌≤◌, Bool, true, false, cond, eqb, List, length, drop, Option, Some, None, Result, Ok, Err, refl, sym, ap, subst, ◌∙◌}
+use Rattle.std.specs.Prelude.{IfNone, IfSome}
 use Rattle.std.specs.Result.{result_ok}
 use Rattle.sb_calls.specs.Op.{IsOpWithin, at_place, at_two_places, op_of}
 use Rattle.sb_calls.specs.declared.call.Call.{Call}
@@ -9,8 +10,8 @@ use Rattle.sb_calls.specs.declared.op.Op.TheVariants.{Balance, DepositChecking, 
 use Rattle.sb_rows.proofs.NamePlaces.{place_of_within}
 use Rattle.sb_rows.specs.Directory.{place_of}
 use Rattle.sb_frames.specs.Decoding.{decode_result, frame_size}
-use Rattle.sb_frames.specs.Entries.{HasEntry, TakesEntry}
-use Rattle.sb_frames.specs.Streaming.{AreBytes, StreamState, Next, Step, next_by, next_of}
+use Rattle.sb_frames.specs.Entries.{HasEntry, HasEntryOp}
+use Rattle.sb_frames.specs.Streaming.{AreBytes, StreamState, next_by, next_of}
 use Rattle.sb_frames.specs.declared.entry_op.EntryOp.{EntryOp}
 use Rattle.sb_frames.specs.declared.fault.FrameFault.{FrameFault}
 use Rattle.sb_frames.specs.declared.fault.FrameFault.TheVariants.{Short, BadLength, UnknownTag, BadName, BadAmount, BadReply, BadStatus}
@@ -22,12 +23,12 @@ use Rattle.sb_frames.proofs.EntryOps.{entry_with, first_entry_is_frame, frame_ha
 use Rattle.sb_frames.proofs.Frames.{decoded_size, decoded_takes}
 use Rattle.sb_frames.proofs.NextFrame.{handed_out}
 
--- ---- an entry is taken
+-- ---- an entry is there
 
-pub ok_of : (names : List (List ℕ)) (unread : List ℕ) (entry : EntryOp) (size : ℕ) → result_ok (first_entry names unread) ≡ Some (entry, size)
-    → first_entry names unread ≡ Ok (entry, size)
-ok_of names unread entry size e = of (first_entry names unread) e where
-  of : (read : Result (EntryOp × ℕ) FrameFault) → result_ok read ≡ Some (entry, size) → read ≡ Ok (entry, size)
+ok_of : (names : List (List ℕ)) (unread : List ℕ) (entry : EntryOp) → result_ok (first_entry names unread) ≡ Some entry
+    → first_entry names unread ≡ Ok entry
+ok_of names unread entry e = of (first_entry names unread) e where
+  of : (read : Result EntryOp FrameFault) → result_ok read ≡ Some entry → read ≡ Ok entry
   of (Ok found) e = cc
   of (Err fault) e = absurd cc
 
@@ -38,29 +39,23 @@ After = Result (Option Frame) StreamFault × StreamState
 abbrev handing_out : Frame → List ℕ → Bool → After
 handing_out frame unread failed = (Ok (Some frame), record { unread = unread; failed = failed })
 
--- what the first entry of the unread bytes says of the stream that goes behind it
-pub taken : (names : List (List ℕ)) (old : StreamState) (unread left : List ℕ) (failed : Bool) (entry : EntryOp) (size : ℕ) → AreBytes unread
-    → unread ≡ old.unread → old.failed ≡ false
-    → first_entry names unread ≡ Ok (entry, size) → left ≡ drop size unread → failed ≡ false
-    → TakesEntry names old entry (record { unread = left; failed = failed })
-taken names old unread left failed entry size are seen fine e rest going =
-    let found = first_entry_is_frame names unread entry size e in
+-- what the first entry of the unread bytes says of the stream
+has_op : (names : List (List ℕ)) (state : StreamState) (unread : List ℕ) (entry : EntryOp) → AreBytes unread
+    → unread ≡ state.unread → state.failed ≡ false → first_entry names unread ≡ Ok entry → HasEntryOp names state entry
+has_op names state unread entry are seen fine e =
+    let found = first_entry_is_frame names unread entry e in
     let frame = Entry entry.number found.0 in
-    let decoded : decode_result old.unread ≡ Ok (frame, size) = ap decode_result (sym seen) ∙ found.1 in
-    let spells = (decoded_takes unread frame size are found.1).1 in
-    let behind : drop size old.unread ≡ left = ap (drop size) (sym seen) ∙ sym rest in
+    let size = found.1 in
+    let after : StreamState = record { unread = drop size state.unread; failed = false } in
+    let decoded : decode_result state.unread ≡ Ok (frame, size) = ap decode_result (sym seen) ∙ found.2 in
+    let spells = (decoded_takes unread frame size are found.2).1 in
     record {
       call = found.0;
-      next = rw (fine, decoded) (ap (λ (xs : List ℕ). handing_out frame xs false) behind ∙ ap (λ (b : Bool). handing_out frame left b) (sym going));
-      looked_up = found.2;
-      handed_out = handed_out old (record { unread = left; failed = failed }) unread frame size seen spells rest going;
+      after = after;
+      next = rw (fine, decoded) refl;
+      looked_up = found.3;
+      handed_out = handed_out state after unread frame size seen spells (ap (drop size) (sym seen)) refl;
     }
-
-pub size_within : (names : List (List ℕ)) (unread : List ℕ) (entry : EntryOp) (size : ℕ) → AreBytes unread → first_entry names unread ≡ Ok (entry, size)
-    → size ≤ length unread
-size_within names unread entry size are e =
-    let found = first_entry_is_frame names unread entry size e in
-    (decoded_takes unread (Entry entry.number found.0) size are found.1).0
 
 -- ---- its op has only customers of the directory
 
@@ -92,11 +87,11 @@ op_within names (calls.WriteCheck name amount) = place_within names (λ place. W
 op_within names (calls.SendPayment from to amount) =
     places_within names (λ places. SendPayment places amount) from to (place_of names from) (place_of names to) refl refl (λ p q g h. (g, h))
 
-pub entry_within : (names : List (List ℕ)) (unread : List ℕ) (entry : EntryOp) (size : ℕ) → first_entry names unread ≡ Ok (entry, size)
+entry_within : (names : List (List ℕ)) (unread : List ℕ) (entry : EntryOp) → first_entry names unread ≡ Ok entry
     → IsOpWithin (length names) entry.op
-entry_within names unread entry size e =
-    let found = first_entry_is_frame names unread entry size e in
-    subst (λ (op : Op). IsOpWithin (length names) op) (sym found.2) (op_within names found.0)
+entry_within names unread entry e =
+    let found = first_entry_is_frame names unread entry e in
+    subst (λ (op : Op). IsOpWithin (length names) op) (sym found.3) (op_within names found.0)
 
 -- ---- no entry is there
 
@@ -114,13 +109,24 @@ next_decoded unread (Err BadAmount) frame after e = let answer = ap (λ (a : Aft
 next_decoded unread (Err BadReply) frame after e = let answer = ap (λ (a : After). a.0) e in absurd cc
 next_decoded unread (Err BadStatus) frame after e = let answer = ap (λ (a : After). a.0) e in absurd cc
 
-pub none_is_there : (names : List (List ℕ)) (old : StreamState) (unread : List ℕ) → unread ≡ old.unread → old.failed ≡ false
+none_is_there : (names : List (List ℕ)) (old : StreamState) (unread : List ℕ) → unread ≡ old.unread → old.failed ≡ false
     → result_ok (first_entry names unread) ≡ None → HasEntry old → ⊥
 none_is_there names old unread seen fine none h =
     let read = next_decoded old.unread (decode_result old.unread) (Entry h.0 h.1) h.2 (rw fine at h.3) in
     let found = frame_has_first_entry names unread h.0 h.1 read.0 (ap decode_result seen ∙ read.1) in
-    let some : result_ok (first_entry names unread) ≡ Some (entry_with h.0 (op_of names h.1), read.0) = ap result_ok found in
+    let some : result_ok (first_entry names unread) ≡ Some (entry_with h.0 (op_of names h.1)) = ap result_ok found in
     absurd cc
+
+-- ---- a stream is looked at
+
+pub peeked : (names : List (List ℕ)) (state : StreamState) (unread : List ℕ) (found : Option EntryOp) → AreBytes unread → unread ≡ state.unread
+    → state.failed ≡ false → found ≡ result_ok (first_entry names unread)
+    → IfSome found (λ entry. HasEntryOp names state entry) × IfNone found (¬ HasEntry state)
+    × IfSome found (λ entry. IsOpWithin (length names) entry.op)
+peeked names state unread (Some entry) are seen fine e =
+    let read = ok_of names unread entry (sym e) in
+    (has_op names state unread entry are seen fine read, tt, entry_within names unread entry read)
+peeked names state unread None are seen fine e = (tt, none_is_there names state unread seen fine (sym e), tt)
 
 -- ---- an entry is skipped
 
@@ -151,7 +157,7 @@ goes_on old frame size left failed fine decoded behind going =
 -- what a stream is behind its size
 pub skipped : (old : StreamState) (unread left : List ℕ) (failed : Bool) (size : ℕ) → HasEntry old → unread ≡ old.unread → failed ≡ old.failed
     → frame_size unread ≡ Ok size → left ≡ drop size unread
-    → (number : ℕ) × (call : Call) × Step old (Next (Ok (Some (Entry number call)))) (record { unread = left; failed = failed })
+    → record { unread = left; failed = failed } ≡ (next_of old).1
 skipped old unread left failed size h seen same sized rest =
     let fine = not_failed old h in
     let front = front_entry old unread seen h in
@@ -160,4 +166,4 @@ skipped old unread left failed size h seen same sized rest =
     let decoded : decode_result old.unread ≡ Ok (frame, size) =
     ap decode_result (sym seen) ∙ front.3 ∙ ap (λ n. Ok (frame, n)) size_is in
     let behind : drop size old.unread ≡ left = ap (drop size) (sym seen) ∙ sym rest in
-    (front.0, front.1, sym (goes_on old frame size left failed fine decoded behind (same ∙ fine)))
+    ap (λ (a : After). a.1) (sym (goes_on old frame size left failed fine decoded behind (same ∙ fine)))

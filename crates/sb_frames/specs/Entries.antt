@@ -13,10 +13,10 @@ HasEntry state =
 
 -- the next frame of the stream is an entry with this number, and the op is that of its call in the
 -- directory
-pub record TakesEntry (names : List (List ℕ)) (before : StreamState)
-    (entry : EntryOp) (after : StreamState) : Type 0 where
+pub record HasEntryOp (names : List (List ℕ)) (stream : StreamState) (entry : EntryOp) : Type 0 where
   pub call : Call
-  pub next : next_of before ≡ (Ok (Some (Entry entry.number call)), after)
+  pub after : StreamState
+  pub next : next_of stream ≡ (Ok (Some (Entry entry.number call)), after)
   pub looked_up : entry.op ≡ op_of names call
-  -- the bytes that the stream skipped are the frame's spelling
-  pub handed_out : HandsOutFrame before (Entry entry.number call) after
+  -- the bytes before the rest are the frame's spelling
+  pub handed_out : HandsOutFrame stream (Entry entry.number call) after

@@ -18,7 +18,7 @@ pub record StreamState : Type 0 where
 abbrev pub empty_stream : StreamState
 empty_stream = record { unread = []; failed = false }
 
--- a call of a stream, with its answer; an entry that `next_entry` takes counts as the frame that
+-- a call of a stream, with its answer; an entry that `skip_entry` skips counts as the frame that
 -- `next` would hand out
 pub data StreamCall : Type 0 where
   Feed : (bytes : List ℕ) (answer : Result (Unit {0}) StreamFault) → StreamCall

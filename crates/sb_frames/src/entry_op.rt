@@ -26,16 +26,6 @@ pub struct EntryOp {
     pub op: Op,
 }
 
-// What fills a slot of a batch before an entry does.
-impl Default for EntryOp {
-    fn default() -> EntryOp {
-        EntryOp {
-            number: 0,
-            op: Op::NoCustomer,
-        }
-    }
-}
-
 // The places of two customers, or the op where one is missing or both are the same.
 #[inline]
 fn two_places(from: Option<u32>, to: Option<u32>) -> Result<TwoPlaces, Op>
@@ -146,17 +136,15 @@ fn entry_of(body: &[u8], directory: &Directory) -> Option<EntryOp>
     }
 }
 
-/// The entry at the front of the bytes, and the number of bytes that it takes, or `None` if no whole
-/// entry is there.
+/// The entry at the front of the bytes, or `None` if no whole entry is there.
 #[inline]
 #[tactic(auto, unfolding(crate::specs::inner::EntryReading::first_entry))]
-pub(crate) fn first_entry(bytes: &[u8], directory: &Directory) -> Option<(EntryOp, usize)>
+pub(crate) fn first_entry(bytes: &[u8], directory: &Directory) -> Option<EntryOp>
     ensures entry { result ≡ result_ok (spec.first_entry directory.now bytes.now) }
     ensures bytes { AreBytes bytes.now }
 {
     let Ok(size) = frame_size(bytes) else {
         return None;
     };
-    let entry = entry_of(&bytes[LENGTH_BYTES..size], directory)?;
-    Some((entry, size))
+    entry_of(&bytes[LENGTH_BYTES..size], directory)
 }

@@ -30,7 +30,7 @@ pub fn spelled_is_decoded()
 
 /// After any calls on a new stream, the bytes that it took are the spellings of the frames that it
 /// handed out, in order, and then its unread bytes. This holds however the bytes were cut. An entry
-/// that [`crate::Stream::next_entry`] takes counts as the frame that `next` would hand out.
+/// that [`crate::Stream::skip_entry`] skips counts as the frame that `next` would hand out.
 pub fn frames_of_bytes()
     ensures { FramesOfBytes }
 {}

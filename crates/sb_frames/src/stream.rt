@@ -1,17 +1,14 @@
 //! A stream of bytes, read as frames.
-ghost use Rattle.std.specs.Prelude.{◌≡◌, ◌↔◌, ℕ, [], Ok, Err, Some, IsTrue, false, true, IfNone, IfOk, IfSome, OnErr, length};
+ghost use Rattle.std.specs.Prelude.{◌≡◌, ◌↔◌, [], Ok, Err, Some, IsTrue, false, true, IfNone, IfOk, IfSome, OnErr, length};
 ghost use Rattle.sb_frames.specs.Streaming.{StreamState, empty_stream, Feeds, next_of, Step, Feed, Next, HandsOutFrame, IsShort, FailsBy};
 ghost use Rattle.sb_calls.specs.Op.{IsOpWithin};
-ghost use Rattle.sb_calls.specs.declared.call.Call.{Call as AnyCall};
-ghost use Rattle.sb_frames.specs.Entries.{HasEntry, TakesEntry};
+ghost use Rattle.sb_frames.specs.Entries.{HasEntry, HasEntryOp};
 ghost use Rattle.sb_frames.specs.declared.fault.StreamFault.{StreamFault as AnyStreamFault};
-ghost use Rattle.sb_frames.specs.declared.frame.Frame.TheVariants.{Entry};
 
 use crate::decoding::{decode, frame_size};
-use crate::entry_op::EntryOp;
+use crate::entry_op::{EntryOp, first_entry};
 use crate::fault::{FrameFault, StreamFault};
 use crate::frame::Frame;
-use crate::lookahead::Lookahead;
 use bytes::BytesMut;
 use sb_rows::Directory;
 use std::alloc::Global;
@@ -98,42 +95,28 @@ impl Stream {
         }
     }
 
-    /// The unread bytes, for reading entries ahead. The stream takes nothing by it.
+    /// The entry that [`Stream::next`] would hand out, with its names looked up in a directory, or
+    /// `None` if no whole entry is there: then [`Stream::next`] says what is. It allocates nothing.
     #[inline]
-    pub fn lookahead(&self) -> Lookahead<'_>
-        ensures { result ≡ self.now }
+    pub fn peek_entry(&self, directory: &Directory) -> Option<EntryOp>
+        ensures entry { IfSome result (λ entry. HasEntryOp directory.now self.now entry) }
+        ensures none { IfNone result (¬ HasEntry self.now) }
+        ensures within { IfSome result (λ entry. IsOpWithin (length directory.now) entry.op) }
     {
-        Lookahead::of(&self.buffer, self.broken)
+        if self.broken {
+            return None;
+        }
+        first_entry(&self.buffer, directory)
     }
 
-    /// Skips the entry at the front of the unread bytes, which [`Stream::next`] would hand out. It
-    /// allocates nothing.
+    /// Skips the entry that [`Stream::next`] would hand out. It allocates nothing.
     #[inline]
     pub fn skip_entry(&mut self)
         requires { HasEntry self.old }
-        // It counts as the frame that `next` would hand out.
-        ensures step { (number : ℕ) × (call : AnyCall)
-            × Step self.old (Next (Ok (Some (Entry number call)))) self.new }
+        ensures { self.new ≡ (next_of self.old).1 }
     {
         let size = frame_size(&self.buffer).unwrap();
         self.buffer.advance(size);
-    }
-
-    /// The entry at the front of the unread bytes, with its names looked up in a directory, or
-    /// `None` if no whole entry is there: then nothing changes, and [`Stream::next`] says what is.
-    /// It allocates nothing.
-    #[inline]
-    pub fn next_entry(&mut self, directory: &Directory) -> Option<EntryOp>
-        ensures entry { IfSome result (λ entry. TakesEntry directory.now self.old entry self.new) }
-        // It counts as the frame that `next` would hand out.
-        ensures step { IfSome result (λ entry. (call : AnyCall)
-            × Step self.old (Next (Ok (Some (Entry entry.number call)))) self.new) }
-        ensures none { IfNone result ((¬ HasEntry self.old) × (self.new ≡ self.old)) }
-        ensures within { IfSome result (λ entry. IsOpWithin (length directory.now) entry.op) }
-    {
-        let entry = self.lookahead().next_entry(directory)?;
-        self.skip_entry();
-        Some(entry)
     }
 
     /// Whether the bytes so far are whole frames, and all of them were handed out. It allocates

@@ -1,5 +1,5 @@
 //! A log of records in a file.
-ghost use Rattle.std.specs.Prelude.{◌≡◌, ◌⊎◌, ◌↔◌, ◌≤◌, ◌++◌, List, ℕ, drop, false, length, true, IfErr, OnErr, OnOk};
+ghost use Rattle.std.specs.Prelude.{◌≡◌, ◌⊎◌, ◌↔◌, ◌≤◌, ◌++◌, List, ℕ, drop, false, length, true, IfErr, OnOk};
 ghost use Rattle.sha2.specs.Hashers.{Holds256};
 ghost use Rattle.sha2.specs.Sha256.{sha256};
 ghost use Rattle.sb_log.specs.Lives.{Life};
@@ -93,9 +93,8 @@ impl<F: LogFile> DurableLog<F> {
         ensures hasher { OnOk result ((bodies : List ℕ) → Holds256 self.old.hasher bodies
             → Holds256 self.new.hasher (bodies ++ drop HEAD buffer.old)) }
         ensures ok { OnOk result ((self.old.failed ≡ false) × (self.new.failed ≡ false)) }
-        ensures failed { OnErr result ((self.new.failed ≡ true)
+        ensures failed { IfErr result (λ fault. (fault ≡ Device) × (self.new.failed ≡ true)
             × ((self.old.failed ≡ true) ⊎ (F.has_failed self.new.file ≡ true))) }
-        ensures fault { IfErr result (λ fault. fault ≡ Device) }
     {
         if self.failed {
             return Err(LogFault::Device);
@@ -126,9 +125,8 @@ impl<F: LogFile> DurableLog<F> {
             × IsLogOf (F.content self.new.file) (F.synced self.new.file) self.new.failed self.new.hasher m }
         ensures hasher { self.new.hasher ≡ self.old.hasher }
         ensures ok { OnOk result ((self.old.failed ≡ false) × (self.new.failed ≡ false)) }
-        ensures failed { OnErr result ((self.new.failed ≡ true)
+        ensures failed { IfErr result (λ fault. (fault ≡ Device) × (self.new.failed ≡ true)
             × ((self.old.failed ≡ true) ⊎ (F.has_failed self.new.file ≡ true))) }
-        ensures fault { IfErr result (λ fault. fault ≡ Device) }
     {
         if self.failed {
             return Err(LogFault::Device);

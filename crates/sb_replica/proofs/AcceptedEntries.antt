@@ -6,9 +6,9 @@ use Rattle.sb_calls.specs.declared.call.TheConstants.{LOG_CALLS}
 use Rattle.sb_calls.specs.declared.op.Op.{Op}
 use Rattle.cown_board.specs.Board.{BoardOf, length_of, unfinished_of}
 use Rattle.cown_board.specs.declared.board.TheConstants.{OPEN_BEHAVIOURS}
-use Rattle.sb_replica_log.specs.Offers.{offer_answer}
-use Rattle.sb_replica_log.specs.declared.offered.Offered.TheVariants.{Next, Repeat, Gap, Held, Busy}
-use Rattle.sb_replica_log.specs.declared.replica_log.TheConstants.{HELD_ENTRIES}
+use Rattle.sb_replica.specs.Offers.{offer_answer}
+use Rattle.sb_replica.specs.declared.offered.Offered.TheVariants.{Next, Repeat, Gap, Held, Busy}
+use Rattle.sb_replica.specs.declared.replica_log.TheConstants.{HELD_ENTRIES}
 
 -- neither a repeat nor early
 next_tests : (there past early busy : Bool) (size number : ℕ)

@@ -5,7 +5,7 @@ use Rattle.sb_rows.specs.Balances.{Balances}
 use Rattle.cown_board.specs.Board.{length_of}
 use Rattle.cown_board.specs.BoardCalls.{board_at_opening}
 use Rattle.sb_checkpoint.specs.Checkpoint.{CheckpointOf, SpellsFor}
-use Rattle.sb_replica_log.specs.Log.{LogOf, none_held}
+use Rattle.sb_replica.specs.Log.{LogOf, none_held}
 use Rattle.sb_replica.specs.Replica.{ReplicaOf, origin_of, with_log}
 use Rattle.sb_replica.specs.States.{Adopts}
 use Rattle.sb_replica.specs.declared.adopted.Adopted.TheVariants.{Adopted}

@@ -1,7 +1,7 @@
 -- A change of a replica's log is one of the replica.
 use Rattle.std.proofs.Common.{◌≡◌, Result, Ok, Err, ap, subst, ◌∙◌}
 use Rattle.std.specs.Prelude.{MatchResult}
-use Rattle.sb_replica_log.specs.Log.{LogOf}
+use Rattle.sb_replica.specs.Log.{LogOf}
 use Rattle.sb_replica.specs.Replica.{ReplicaOf, log_of, with_log}
 
 changes : {S A E : Type 0} (old : ReplicaOf S) (new : LogOf) (result : Result A E) (after : LogOf → A → LogOf)

@@ -10,7 +10,7 @@ use Rattle.sb_frames.specs.declared.frame.Frame.{Frame}
 use Rattle.sb_frames.specs.declared.frame.Frame.TheVariants.{Ask, Entry, Ack, Answer, Outcome, Flush, Have}
 use Rattle.sb_replica.specs.Frames.{ReceivesBytes, after_frame, frame_if_whole, frame_answer, whole_frame}
 use Rattle.sb_replica.specs.Replica.{ReplicaOf, log_of, with_log}
-use Rattle.sb_replica.specs.Streams.{IsEntry}
+use Rattle.sb_replica.specs.Receiving.{IsEntry}
 use Rattle.sb_replica.specs.declared.heard.Heard.TheVariants.{Ignored}
 
 -- bytes that spell a frame are that frame

@@ -8,10 +8,10 @@ use Rattle.sb_frames.specs.declared.fault.FrameFault.{FrameFault}
 use Rattle.sb_frames.specs.declared.fault.FrameFault.TheVariants.{BadLength}
 use Rattle.sb_frames.specs.declared.frame.Frame.{Frame}
 use Rattle.sb_frames.specs.declared.frame.Frame.TheVariants.{Ask, Entry, Ack, Answer, Outcome, Flush, Have}
-use Rattle.sb_replica_log.specs.Log.{LogOf}
-use Rattle.sb_replica_log.specs.Offers.{offer_answer, after_offer, advance_answer}
-use Rattle.sb_replica_log.specs.declared.offered.Offered.{Offered}
-use Rattle.sb_replica_log.specs.declared.offered.Offered.TheVariants as offer
+use Rattle.sb_replica.specs.Log.{LogOf}
+use Rattle.sb_replica.specs.Offers.{offer_answer, after_offer, advance_answer}
+use Rattle.sb_replica.specs.declared.offered.Offered.{Offered}
+use Rattle.sb_replica.specs.declared.offered.Offered.TheVariants as offer
 use Rattle.sb_replica.specs.Replica.{ReplicaOf, log_of, with_log}
 use Rattle.sb_replica.specs.declared.fault.ReplicaFault.{ReplicaFault}
 use Rattle.sb_replica.specs.declared.fault.ReplicaFault.TheVariants as fault

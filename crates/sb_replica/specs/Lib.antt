@@ -1,7 +1,9 @@
 pub mod Frames
+pub mod Log
 pub mod Marking
+pub mod Offers
+pub mod Receiving
 pub mod Replica
 pub mod Restarting
 pub mod States
-pub mod Streams
 pub mod inner

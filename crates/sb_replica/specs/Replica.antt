@@ -9,7 +9,7 @@ use Rattle.cown_board.specs.Board.{BoardOf}
 use Rattle.cown_board.specs.BoardCalls.{board_at_opening}
 use Rattle.cown_board.specs.State.{finished_reply}
 use Rattle.sb_checkpoint.specs.Checkpoint.{Origin}
-use Rattle.sb_replica_log.specs.Log.{LogOf, none_held}
+use Rattle.sb_replica.specs.Log.{LogOf, none_held}
 
 -- its number, the customers' names by place, the balances at the opening, its board, the ops held
 -- for later numbers, and its store

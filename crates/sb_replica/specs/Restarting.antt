@@ -10,7 +10,7 @@ use Rattle.sb_checkpoint.specs.Stores.{StoreStep, Get, GetFault}
 use Rattle.sb_checkpoint.specs.declared.fault.CheckpointFault.TheVariants as checkpoint
 use Rattle.sb_checkpoint.specs.declared.store.StoreFault.{StoreFault}
 use Rattle.sb_checkpoint.specs.declared.store.StoreFault.TheVariants as store
-use Rattle.sb_replica_log.specs.Log.{none_held}
+use Rattle.sb_replica.specs.Log.{none_held}
 use Rattle.sb_replica.specs.Replica.{ReplicaOf, origin_of}
 use Rattle.sb_replica.specs.declared.fault.RestartFault.{RestartFault}
 use Rattle.sb_replica.specs.declared.fault.RestartFault.TheVariants as restart

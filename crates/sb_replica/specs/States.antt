@@ -6,7 +6,7 @@ use Rattle.sb_checkpoint.specs.Checkpoint.{CheckpointOf, SpellsFor, Origin}
 use Rattle.sb_checkpoint.specs.Reading.{first_fault, head_fault}
 use Rattle.sb_checkpoint.specs.Stores.{StoreStep, Get}
 use Rattle.sb_checkpoint.specs.declared.fault.CheckpointFault.TheVariants as checkpoint
-use Rattle.sb_replica_log.specs.Log.{none_held}
+use Rattle.sb_replica.specs.Log.{none_held}
 use Rattle.sb_replica.specs.Replica.{ReplicaOf, origin_of}
 use Rattle.sb_replica.specs.Restarting.{IsBoardOn}
 use Rattle.sb_replica.specs.declared.adopted.Adopted.{Adopted}

@@ -1,3 +1,5 @@
-pub mod Batches
 pub mod FaultConversions
+pub mod HeldOps
+pub mod OtherFrames
 pub mod ReplicaInvariant
+pub mod Rotation

@@ -1,7 +1,7 @@
 //! Frames from the network.
 ghost use Rattle.std.specs.Prelude.{◌≡◌, ℕ, suc, Some, IfOk, IfErr, OnErr, MatchResult, option_map};
 ghost use Rattle.cown_board.specs.Board.{length_of};
-ghost use Rattle.sb_replica_log.specs.Offers.{after_advance};
+ghost use Rattle.sb_replica.specs.Offers.{after_advance};
 ghost use Rattle.sb_replica.specs.Frames as spec;
 ghost use Rattle.sb_replica.specs.Frames.{ReceivesBytes, IsReplicaFaultOf, after_frame, frame_answer, next_entry_answer};
 ghost use Rattle.sb_replica.specs.Replica.{log_of, with_log};
@@ -9,12 +9,12 @@ ghost use Rattle.sb_replica.specs.declared.heard.Heard.TheVariants as heard;
 
 use crate::fault::ReplicaFault;
 use crate::heard::Heard;
+use crate::offered::Offered;
 use crate::replica::Replica;
 use cown_board::Runs;
 use sb_calls::resolve;
 use sb_checkpoint::CheckpointStore;
 use sb_frames::{Frame, FrameFault, decode};
-use sb_replica_log::Offered;
 use std::alloc::AllocError;
 
 // The one frame that takes all of these bytes.
@@ -30,7 +30,7 @@ fn whole_frame(bytes: &[u8]) -> Result<Frame, FrameFault>
 }
 
 // The answer to an entry with this number.
-fn entry_answer(number: u64, offered: Offered) -> Heard
+pub(crate) fn entry_answer(number: u64, offered: Offered) -> Heard
     ensures { result ≡ spec.entry_answer number offered }
 {
     match offered {
@@ -98,8 +98,8 @@ impl<S: CheckpointStore> Replica<S> {
             (λ answer. self.new ≡ with_log self.old (after_advance (log_of self.old)))
             (λ fault. self.new ≡ self.old) }
     {
-        let next = self.log.length() + 1;
-        let Ok(offered) = self.log.advance() else {
+        let next = self.log.board.length() + 1;
+        let Ok(offered) = self.log.take_held() else {
             return Err(ReplicaFault::OutOfMemory);
         };
         Ok(held_entry_answer(next, offered))

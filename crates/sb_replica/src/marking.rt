@@ -29,7 +29,7 @@ impl<S: CheckpointStore> Replica<S> {
         ensures made { MakesCut self.old.board result self.new.board }
         ensures rest { self.new ≡ record self.old { board = self.new.board } }
     {
-        self.log.cut()
+        self.log.board.cut()
     }
 
     /// Puts a checkpoint of the log up to the cut into the store, answers its length, and removes
@@ -68,7 +68,7 @@ impl<S: CheckpointStore> Replica<S> {
         };
         match self.store.put(&bytes) {
             Ok(()) => {
-                self.log.drop_cut();
+                self.log.board.drop_cut();
                 Ok(bytes)
             }
             Err(StoreFault::Device) => Err(MarkFault::Device),
@@ -82,8 +82,8 @@ impl<S: CheckpointStore> Replica<S> {
         ensures limit { result ≤ LOG_CALLS }
         ensures same_length { length self.now.board.log ≡ length self.now.board.states }
     {
-        let length = self.log.length();
-        match self.log.board().cut_length() {
+        let length = self.log.board.length();
+        match self.log.board.cut_length() {
             Some(number) => number,
             None => length,
         }
@@ -95,9 +95,9 @@ impl<S: CheckpointStore> Replica<S> {
             (λ columns. (unfinished_of (up_to_cut self.now.board) ≡ 0)
             × IsAfterAll declared_cowns effect_of (up_to_cut self.now.board) columns.now) }
     {
-        match self.log.board().cut_length() {
-            Some(_) => self.log.board().cut_columns(),
-            None => self.log.board().final_columns(),
+        match self.log.board.cut_length() {
+            Some(_) => self.log.board.cut_columns(),
+            None => self.log.board.final_columns(),
         }
     }
 
@@ -126,7 +126,7 @@ impl<S: CheckpointStore> Replica<S> {
         ensures valid { IfOk result (λ replies. All IsReply replies.items) }
         ensures limit { IfOk result (λ replies. length replies.items ≤ LOG_CALLS) }
     {
-        let length = self.log.length();
+        let length = self.length();
         let mut replies = Vec::with_capacity(self.alloc, length as usize)?;
         for place in 0..length {
             // Each entry is finished.

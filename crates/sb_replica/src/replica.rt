@@ -4,16 +4,17 @@ ghost use Rattle.sb_calls.specs.Op.{IsOpWithin};
 ghost use Rattle.cown_board.specs.Board.{length_of, reply_in};
 ghost use Rattle.sb_checkpoint.specs.Stores.{Compares, StoreDoes, Get, GetFault};
 ghost use Rattle.sb_frames.specs.declared.frame.Frame.TheVariants as frames;
-ghost use Rattle.sb_replica_log.specs.Offers.{offer_answer, after_offer};
+ghost use Rattle.sb_replica.specs.Offers.{offer_answer, after_offer};
 ghost use Rattle.sb_replica.specs.Replica.{log_of, origin_of, replica_at_opening, with_log};
 
+use crate::offered::Offered;
+use crate::replica_log::ReplicaLog;
 use crate::restarting::log_at_opening;
 use cown_board::Runs;
 use lane_audit::bank_total;
 use sb_calls::{Op, WireReply};
 use sb_checkpoint::{CheckpointStore, How, MemoryStore, StoreFault};
 use sb_frames::Frame;
-use sb_replica_log::{Offered, ReplicaLog};
 use sb_rows::{Columns, Directory};
 use std::alloc::{AllocError, Global};
 use std::marker::Model;
@@ -78,8 +79,10 @@ impl<S: CheckpointStore> Replica<S> {
         })
     }
 
-    /// Offers the entry with this number to the log, as [`ReplicaLog::offer_entry`] does. All
-    /// beside the log stays.
+    /// Offers the entry with this number to the log, which takes it if it is the next one and holds it
+    /// if it comes a little early. Otherwise nothing changes.
+    ///
+    /// Fails if memory is refused for an entry that would be taken; then nothing changes.
     pub fn offer_entry(&mut self, number: u64, op: Op) -> Result<Offered, AllocError>
         requires { IsOpWithin (length self.old.names) op }
         ensures answer { IfOk result (λ answer. answer ≡ offer_answer self.old.board number) }
@@ -91,11 +94,11 @@ impl<S: CheckpointStore> Replica<S> {
         self.log.offer_entry(number, op)
     }
 
-    /// Makes room for this many more entries, as [`ReplicaLog::reserve`] does.
+    /// Makes room for this many more entries, as [`Board::reserve`](cown_board::Board::reserve) does.
     pub fn reserve(&mut self, additional: usize) -> Result<(), AllocError>
         ensures { self.new ≡ self.old }
     {
-        self.log.reserve(additional)
+        self.log.board.reserve(additional)
     }
 
     /// The customers' names by place.

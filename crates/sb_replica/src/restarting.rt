@@ -3,17 +3,17 @@ ghost use Rattle.std.specs.Prelude.{◌≡◌, ◌≤◌, [], IfOk, IfErr, lengt
 ghost use Rattle.std.specs.List.{All};
 ghost use Rattle.sb_calls.specs.Replies.{IsReply};
 ghost use Rattle.cown_board.specs.BoardCalls.{board_at_opening};
-ghost use Rattle.sb_replica_log.specs.Log.{none_held};
+ghost use Rattle.sb_replica.specs.Log.{none_held};
 ghost use Rattle.sb_checkpoint.specs.Stores.{StoreDoes};
 ghost use Rattle.sb_replica.specs.Replica.{origin_of, with_log};
 ghost use Rattle.sb_replica.specs.Restarting.{Restarts, IsRestartFaultOf, IsBoardOn, IsRefusalOf};
 
 use crate::fault::RestartFault;
 use crate::replica::Replica;
+use crate::replica_log::ReplicaLog;
 use cown_board::{Board, Runs};
 use sb_calls::{LOG_CALLS, Reply};
 use sb_checkpoint::CheckpointStore;
-use sb_replica_log::ReplicaLog;
 use sb_rows::Columns;
 use std::alloc::{AllocError, Global};
 
@@ -31,7 +31,7 @@ pub(crate) fn log_on(
 {
     let length = replies.len() as u64;
     let board = Board::open(alloc, columns, length, replies)?;
-    Ok(ReplicaLog::open(board))
+    Ok(ReplicaLog::with_board(board))
 }
 
 // An empty log with a board on a copy of these columns.
@@ -61,7 +61,7 @@ impl<S: CheckpointStore> Replica<S> {
         let content = self.store.get()?;
         let log = self.stored_log(content)?;
         self.replace_log(log);
-        Ok(self.log.length())
+        Ok(self.length())
     }
 
     // The old log is gone, with its cut and the ops that it held.

@@ -4,7 +4,7 @@ use cown_board::{Board, Done, Job, Runs};
 use sb_calls::{Op, Reply};
 use sb_checkpoint::CheckpointStore;
 
-// The log runs them.
+// The board of its log runs them.
 impl<S: CheckpointStore> Runs for Replica<S> {
     ghost use Rattle.std.specs.Prelude.{List, Option};
     ghost use Rattle.std.specs.List.{All};
@@ -23,16 +23,16 @@ impl<S: CheckpointStore> Runs for Replica<S> {
 
     #[inline(always)]
     fn take_at(&mut self, index: usize) -> Option<Job<Op>> {
-        self.log.take_at(index)
+        self.log.board.take_at(index)
     }
 
     #[inline(always)]
     fn finish(&mut self, done: Done<Op>) -> Result<Reply, Done<Op>> {
-        self.log.finish(done)
+        self.log.board.finish(done)
     }
 
     #[inline]
     fn board(&self) -> &Board<Op> {
-        self.log.board()
+        &self.log.board
     }
 }

@@ -8,7 +8,7 @@ use Rattle.sb_frames.specs.declared.frame.Frame.TheVariants as frame
 use Rattle.sb_sequencer.specs.Entries.{entry_of, entries_to_resend}
 use Rattle.sb_sequencer.specs.Sequencer.{SequencerOf}
 use Rattle.cown_board.specs.declared.board.TheConstants.{OPEN_BEHAVIOURS}
-use Rattle.sb_replica_log.specs.declared.replica_log.TheConstants.{HELD_ENTRIES}
+use Rattle.sb_replica.specs.declared.replica_log.TheConstants.{HELD_ENTRIES}
 use Rattle.schedule_player.specs.Bank.{BankOf, log_reply}
 use Rattle.schedule_player.specs.OneBased.{nth_item, with_nth}
 use Rattle.schedule_player.specs.Readiness.{runnable_entries}

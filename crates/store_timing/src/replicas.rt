@@ -11,7 +11,7 @@ use sb_amount::Cents;
 use sb_calls::{Call, WireReply};
 use sb_checkpoint::MemoryStore;
 use sb_frames::{AskOutcome, Frame, Stream, encode};
-use sb_replica::{Pause, Replica};
+use sb_replica::{Received, Replica};
 use sb_rows::Directory;
 use std::alloc::Global;
 use std::time::Duration;
@@ -80,12 +80,13 @@ pub(crate) fn receive_all(
 fn receive_message(replica: &mut Replica<MemoryStore>, stream: &mut Stream) -> Result<(), Fault> {
     // The checker takes the frame apart, and needs the types spelled out.
     let _parts: Option<(Frame, Call, WireReply, AskOutcome)> = None;
-    // A message has fewer entries than bytes.
+    // A message has fewer entries than bytes, also if everything is executed before each.
     for _ in 0..MESSAGE {
-        match replica.receive_stream(stream)? {
-            Pause::Short => return Ok(()),
-            Pause::Busy => drain(replica, &mut InlineCrew)?,
-            Pause::Other(_) => return Err(Fault::Unfinished),
+        match replica.receive(stream)? {
+            Received::Entry(_) => {}
+            Received::Short => return Ok(()),
+            Received::Busy => drain(replica, &mut InlineCrew)?,
+            Received::Other(_) => return Err(Fault::Unfinished),
         }
     }
     Err(Fault::Unfinished)

@@ -24,7 +24,7 @@ use Rattle.cown_board.specs.State.{is_unfinished, state_is, finished_reply}
 use Rattle.cown_board.specs.declared.state.State.{State}
 use Rattle.cown_board.specs.declared.state.State.TheVariants.{Waiting, Out, Finished}
 use Rattle.cown_workers.specs.Draining.{HasNoneOut, PreservesLog}
-use Rattle.sb_replica_log.specs.Offers.{board_with_entry}
+use Rattle.sb_replica.specs.Offers.{board_with_entry}
 use Rattle.bank_server.specs.inner.Appends.{AppendsOps}
 use Rattle.sb_replica.specs.Replica.{ReplicaOf}
 use Rattle.sb_sequencer.specs.Numbering.{calls_of}

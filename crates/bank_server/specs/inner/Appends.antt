@@ -1,5 +1,5 @@
 -- Ops that are appended to a board's log.
-use Rattle.std.specs.Prelude.{◌≡◌, ℕ, List, ◌++◌}
+use Rattle.std.specs.Prelude.{◌≡◌, ℕ, List, ◌++◌, drop}
 use Rattle.std.specs.List.{All}
 use Rattle.sb_calls.specs.Op.{IsOpWithin}
 use Rattle.sb_calls.specs.declared.op.Op.{Op}
@@ -17,3 +17,7 @@ pub record AppendsOps (ops : List Op) (old new : BoardOf Op) : Type 0 where
   pub log : new.log ≡ old.log ++ ops
   pub cut : new.cut ≡ old.cut
   pub none_out : HasNoneOut old → HasNoneOut new
+
+-- after this many ops, the log has these
+abbrev pub HasOpsAt : List Op → ℕ → List Op → Type 0
+HasOpsAt log size ops = (behind : List Op) × (drop size log ≡ ops ++ behind)

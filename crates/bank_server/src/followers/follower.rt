@@ -9,7 +9,7 @@ use cown_workers::{CrewGone, InlineCrew, drain};
 use crossbeam_channel::{Receiver, Sender};
 use sb_checkpoint::MemoryStore;
 use sb_frames::{Frame, Stream};
-use sb_replica::{Pause, ReceiveFault, Replica};
+use sb_replica::{ReceiveFault, Received, Replica};
 use std::sync::Wait;
 
 /// What a follower's thread owns.
@@ -108,15 +108,15 @@ fn handle_rest<R: Wait>(
         (record { replica = replica.new; stream = stream.new })) }
 {
     for _ in rt.forever() {
-        let pause = match replica.receive_stream(stream) {
-            Ok(pause) => pause,
+        let received = match replica.receive(stream) {
+            Ok(received) => received,
             Err(fault) => return Err(reason_of(fault)),
         };
-        match pause {
-            Pause::Short => return Ok(()),
-            Pause::Busy | Pause::Other(Frame::Flush) => execute_in_place(replica)?,
-            // Nothing else is sent to a follower.
-            Pause::Other(_) => {}
+        match received {
+            Received::Short => return Ok(()),
+            Received::Busy | Received::Other(Frame::Flush) => execute_in_place(replica)?,
+            // Nothing else is sent to a follower but entries.
+            Received::Entry(_) | Received::Other(_) => {}
         }
     }
     unreachable!()

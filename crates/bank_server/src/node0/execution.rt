@@ -1,16 +1,18 @@
 //! Executing the ops of a log on a replica.
-ghost use Rattle.std.specs.Prelude.{◌≡◌, ◌≢◌, ◌≤◌, ◌<◌, ◌+◌, List, [], ◌∷◌, false, length, map, IfErr, IfNone, OnOk, OnErr};
+ghost use Rattle.std.specs.Prelude.{◌≡◌, ◌≢◌, ◌≤◌, ◌<◌, ◌+◌, List, [], ◌∷◌, false, length, map, slice_get, Some, IfErr, IfNone, OnOk, OnErr};
 ghost use Rattle.sb_rows.specs.Rows.{SameCustomers};
 ghost use Rattle.sb_calls.specs.Op.{IsOpWithin, op_of};
+ghost use Rattle.sb_calls.specs.declared.op.Op.{Op as AnyOp};
 ghost use Rattle.sb_calls.specs.declared.ask.Key.{Key};
 ghost use Rattle.sb_calls.specs.declared.call.Call.{Call as AnyCall};
 ghost use Rattle.cown_board.specs.Board.{length_of, unfinished_of};
 ghost use Rattle.cown_workers.specs.Draining.{PreservesLog, HasNoneOut};
 ghost use Rattle.sb_replica.specs.Replica.{rest_of};
-ghost use Rattle.bank_server.specs.inner.Appends.{AreOpsWithin, AppendsOps};
+ghost use Rattle.bank_server.specs.inner.Appends.{AreOpsWithin, AppendsOps, HasOpsAt};
 ghost use Rattle.sb_sequencer.specs.Numbering.{calls_of};
 ghost use Rattle.bank_server.specs.Execution.{HasNoEntries};
 ghost use Rattle.bank_server.specs.Faults.{IsExecutionFault};
+ghost use Rattle.bank_server.specs.NodeTurns.{TurnsLead};
 ghost use Rattle.bank_server.specs.Primary.{RunsLog};
 
 use super::resolving::resolve_part;
@@ -19,8 +21,7 @@ use cown_board::Runs;
 use cown_workers::{Crew, CrewFault, CrewGone, drain};
 use sb_calls::{Call, LOG_CALLS, Op};
 use sb_checkpoint::CheckpointStore;
-use sb_replica::Replica;
-use sb_replica_log::Offered;
+use sb_replica::{Offered, Replica};
 use sb_sequencer::Sequencer;
 use std::alloc::Global;
 use std::sync::Wait;
@@ -53,6 +54,7 @@ pub(crate) fn execute_calls<S: CheckpointStore, C: Crew, R: Wait>(
     // The result is as if the calls were executed one by one.
     ensures run { (log : List (Key × AnyCall)) → calls_of log ≡ calls.now
         → OnOk result (RunsLog log replica.old replica.new) }
+    ensures turns { OnOk result (TurnsLead (map (op_of replica.old.names) calls.now) replica.old replica.new) }
     ensures sent { OnOk result (length calls.now ≤ followers.new.sent) }
     ensures unchanged { followers.new ≡ record followers.old { sent = followers.new.sent } }
     ensures fault { IfErr result (IsExecutionFault C.keeps replica.old.board) }
@@ -77,6 +79,9 @@ fn submit_parts<S: CheckpointStore, C: Crew, R: Wait>(
     requires log_given { IfNone log (followers.old.listening ≡ 0) }
     ensures put { OnOk result
         (AppendsOps (map (op_of replica.old.names) calls.now) replica.old.board replica.new.board) }
+    ensures turns { (log : List AnyOp)
+        → HasOpsAt log (length_of replica.old.board) (map (op_of replica.old.names) calls.now)
+        → OnOk result (TurnsLead log replica.old replica.new) }
     ensures rest { rest_of replica.new ≡ rest_of replica.old }
     ensures sent { OnOk result (length calls.now ≤ followers.new.sent) }
     ensures unchanged { followers.new ≡ record followers.old { sent = followers.new.sent } }
@@ -105,6 +110,8 @@ pub(crate) fn submit_all<S: CheckpointStore, C: Crew>(
     requires limit { length_of replica.old.board + length ops.now ≤ LOG_CALLS }
     requires within { AreOpsWithin (length replica.old.names) ops.now }
     ensures put { OnOk result (AppendsOps ops.now replica.old.board replica.new.board) }
+    ensures turns { (log : List AnyOp) → HasOpsAt log (length_of replica.old.board) ops.now
+        → OnOk result (TurnsLead log replica.old replica.new) }
     ensures rest { rest_of replica.new ≡ rest_of replica.old }
     ensures fault { IfErr result (IsExecutionFault C.keeps replica.old.board) }
 {
@@ -125,6 +132,8 @@ pub(crate) fn submit_op<S: CheckpointStore, C: Crew>(
     requires room { length_of replica.old.board < LOG_CALLS }
     requires within { IsOpWithin (length replica.old.names) op.now }
     ensures put { OnOk result (AppendsOps (op.now ∷ []) replica.old.board replica.new.board) }
+    ensures turns { (log : List AnyOp) → slice_get log (length_of replica.old.board) ≡ Some op.now
+        → TurnsLead log replica.old replica.new }
     // After a fault the log is as it was.
     ensures err { OnErr result (PreservesLog replica.old.board replica.new.board) }
     ensures none_out { C.keeps ≡ false → HasNoneOut replica.old.board → HasNoneOut replica.new.board }
@@ -152,6 +161,7 @@ pub(crate) fn execute_unfinished<S: CheckpointStore, C: Crew>(
     crew: &mut C,
 ) -> Result<(), CrewFault>
     ensures idle { OnOk result (unfinished_of replica.new.board ≡ 0) }
+    ensures turns { (log : List AnyOp) → TurnsLead log replica.old replica.new }
     ensures none_out { C.keeps ≡ false → HasNoneOut replica.old.board → HasNoneOut replica.new.board }
     ensures log { PreservesLog replica.old.board replica.new.board }
     ensures rest { rest_of replica.new ≡ rest_of replica.old }

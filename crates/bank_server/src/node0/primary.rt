@@ -14,6 +14,7 @@ ghost use Rattle.bank_server.specs.inner.AskSteps.{AddsAsk};
 ghost use Rattle.bank_server.specs.inner.CountedAsks.{counts_by};
 ghost use Rattle.bank_server.specs.Execution.{HasNoEntries};
 ghost use Rattle.bank_server.specs.Faults.{IsExecutionFault};
+ghost use Rattle.bank_server.specs.NodeTurns.{TurnsLead};
 ghost use Rattle.bank_server.specs.Primary.{HasWholeLog, IsPrimary, PreservesBank, RunsLog, log_ops, node_at_opening};
 ghost use Rattle.bank_server.specs.inner.NumberedAsks.{NumbersAsks};
 ghost use Rattle.bank_server.specs.Saving.{StoresCheckpoint, IsSaveFaultOf, Saves};
@@ -199,8 +200,9 @@ impl<S: CheckpointStore, K: Keeper> Primary<S, K> {
     /// Fails as [`Primary::settle`] does.
     pub(crate) fn offer_rest<C: Crew>(&mut self, crew: &mut C) -> Result<(), SessionFault>
         ensures offered { OnOk result (self.new.node.board.log ≡ log_ops self.new.node.names self.new.log) }
-        ensures log { self.new.log ≡ self.old.log }
-        ensures counts { self.new.counts ≡ self.old.counts }
+        // Node 0 is offered the log's entries and exchanges jobs with the crew, whatever the result.
+        ensures turns { TurnsLead (log_ops self.old.node.names self.old.log) self.old.node self.new.node }
+        ensures unchanged { self.new ≡ record self.old { node = self.new.node } }
         ensures one_each { IsLog self.new.log }
         // The bank goes on, after a fault too.
         ensures serves { ServesOn K.model C.keeps result self.old self.new }
@@ -224,8 +226,9 @@ impl<S: CheckpointStore, K: Keeper> Primary<S, K> {
     /// The log stays, and node 0 may have executed more of it then.
     pub fn settle<C: Crew>(&mut self, crew: &mut C) -> Result<(), SessionFault>
         ensures whole_log { OnOk result (HasWholeLog self.new) }
-        ensures log { self.new.log ≡ self.old.log }
-        ensures counts { self.new.counts ≡ self.old.counts }
+        // Node 0 is offered the log's entries and exchanges jobs with the crew, whatever the result.
+        ensures turns { TurnsLead (log_ops self.old.node.names self.old.log) self.old.node self.new.node }
+        ensures unchanged { self.new ≡ record self.old { node = self.new.node } }
         // It has one number for each key.
         ensures one_each { IsLog self.new.log }
         // What was kept stays kept, and a crew that keeps no job leaves none out, after a fault too.
@@ -265,6 +268,8 @@ impl<S: CheckpointStore, K: Keeper> Primary<S, K> {
     ) -> Result<Box<Replica<S>>, CrewFault>
         requires no_entries { HasNoEntries self.node.board }
         ensures run { IfOk result (λ node. RunsLog self.log self.node node.value) }
+        // It was offered the log's entries and exchanged jobs with the crew.
+        ensures turns { IfOk result (λ node. TurnsLead (log_ops self.node.names self.log) self.node node.value) }
         // The whole log was sent to the followers.
         ensures sent { OnOk result (length self.log ≤ followers.new.sent) }
         ensures unchanged { followers.new ≡ record followers.old { sent = followers.new.sent } }
@@ -335,6 +340,7 @@ fn execute_log<S: CheckpointStore, R: Wait, C: Crew>(
     requires opened { HasNoEntries node.old.board }
     requires customers { SameCustomers node.old.names node.old.board.opening }
     ensures run { OnOk result (RunsLog log.value.log node.old node.new) }
+    ensures turns { OnOk result (TurnsLead (log_ops node.old.names log.value.log) node.old node.new) }
     ensures sent { OnOk result (length log.value.log ≤ followers.new.sent) }
     ensures unchanged { followers.new ≡ record followers.old { sent = followers.new.sent } }
     ensures fault { IfErr result (IsExecutionFault C.keeps node.old.board) }

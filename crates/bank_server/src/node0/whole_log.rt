@@ -3,7 +3,8 @@ ghost use Rattle.std.specs.Prelude.{◌≤◌, IfOk, IfErr};
 ghost use Rattle.bank_server.specs.Execution.{HasNoEntries};
 ghost use Rattle.bank_server.specs.Faults.{IsNodesFault};
 ghost use Rattle.bank_server.specs.inner.RunFaults.{IsTeamFault};
-ghost use Rattle.bank_server.specs.Primary.{RunsLog};
+ghost use Rattle.bank_server.specs.NodeTurns.{TurnsLead};
+ghost use Rattle.bank_server.specs.Primary.{RunsLog, log_ops};
 
 use super::primary::Primary;
 use super::team::{Duty, WorkerCount, with_team};
@@ -31,7 +32,8 @@ impl<S: CheckpointStore> Duty for WholeLog<S> {
     ghost ready = { λ duty. HasNoEntries duty.primary.node.board };
 
     ghost does = { λ duty nodes workers keeps answer. IfOk answer
-        (λ node. RunsLog duty.primary.log duty.primary.node node.value)
+        (λ node. RunsLog duty.primary.log duty.primary.node node.value
+        × TurnsLead (log_ops duty.primary.node.names duty.primary.log) duty.primary.node node.value)
         × IfErr answer (IsTeamFault nodes keeps) };
 
     fn carry_out<R, C>(
@@ -76,6 +78,8 @@ where
     requires opened { HasNoEntries primary.node.board }
     // It began as this node 0 and executed the ops of the log, as if its calls were run one by one.
     ensures run { IfOk result (λ node. RunsLog primary.log primary.node node.value) }
+    // It was offered the log's entries and exchanged jobs with the crew.
+    ensures turns { IfOk result (λ node. TurnsLead (log_ops primary.node.names primary.log) primary.node node.value) }
     ensures fault { IfErr result (IsNodesFault followers.nodes workers) }
 {
     with_team(rt, alloc, followers, workers, gate, WholeLog { primary })?

@@ -1,7 +1,7 @@
 //! A replica that receives a stream, compared with one that receives the bytes of the same frames.
 use super::*;
 use sb_frames::{FrameFault, Stream, StreamFault};
-use sb_replica::{BATCH_ENTRIES, Pause, ReceiveFault};
+use sb_replica::{ReceiveFault, Received};
 
 // A replica, and the stream that it receives.
 #[derive(Drop)]
@@ -67,10 +67,11 @@ fn receive_each(rt: &impl Abort, replica: &mut Replica<MemoryStore>, frames: &[F
 fn receive_piece(rt: &impl Abort, other: &mut StreamNode, bytes: &[u8]) {
     assert!(rt; other.stream.feed(bytes) == Ok(()));
     for _ in 0..u64::MAX {
-        match other.node.replica.receive_stream(&mut other.stream) {
-            Ok(Pause::Short) => return,
-            Ok(Pause::Other(frame)) => assert!(rt; frame == Frame::Flush),
-            Ok(Pause::Busy) => run_all(rt, &mut other.node.replica),
+        match other.node.replica.receive(&mut other.stream) {
+            Ok(Received::Entry(_)) => {}
+            Ok(Received::Short) => return,
+            Ok(Received::Other(frame)) => assert!(rt; frame == Frame::Flush),
+            Ok(Received::Busy) => run_all(rt, &mut other.node.replica),
             Err(_) => assert!(rt; false, "a fault"),
         }
     }
@@ -131,17 +132,44 @@ fn a_stream_is_received_as_its_frames_however_it_is_cut(rt: HostRuntime) {
 
 #[test]
 fn a_long_stream_is_received_as_its_frames(rt: HostRuntime) {
-    let batch = BATCH_ENTRIES as u64;
-    for last in [batch - 1, batch, batch + 1, 1_023, 1_024, 1_025, 2_500] {
+    for last in [1_023, 1_024, 1_025, 2_500] {
         let frames = entries_up_to(&rt, last);
         receive_alike(&rt, &frames, 0);
         receive_alike(&rt, &frames, 30);
     }
 }
 
-fn fails_so(rt: &impl Abort, other: &mut StreamNode, fault: ReceiveFault) {
-    let answered = other.node.replica.receive_stream(&mut other.stream);
-    assert!(rt; answered == Err(fault));
+fn receives_so(rt: &impl Abort, other: &mut StreamNode, answer: Result<Received, ReceiveFault>) {
+    let answered = other.node.replica.receive(&mut other.stream);
+    assert!(rt; answered == answer);
+}
+
+fn accepts_so(rt: &impl Abort, other: &mut StreamNode, number: u64) {
+    receives_so(rt, other, Ok(Received::Entry(Heard::Accepted(number))));
+}
+
+// Nothing is lost while it is busy.
+#[test]
+fn a_busy_replica_takes_no_frame(rt: HostRuntime) {
+    let bytes = spelled(&rt, &entries_up_to(&rt, 1_026));
+    let mut other = new_stream_node(&rt);
+    assert!(rt; other.stream.feed(&bytes) == Ok(()));
+    assert!(rt; other.stream.feed(&encode(&Frame::Flush)) == Ok(()));
+    for number in 1..1_025 {
+        accepts_so(&rt, &mut other, number);
+    }
+    receives_so(&rt, &mut other, Ok(Received::Busy));
+    receives_so(&rt, &mut other, Ok(Received::Busy));
+    runs(&rt, &mut other.node.replica, 1, Reply::Done);
+    accepts_so(&rt, &mut other, 1_025);
+    receives_so(&rt, &mut other, Ok(Received::Busy));
+    run_all(&rt, &mut other.node.replica);
+    accepts_so(&rt, &mut other, 1_026);
+    receives_so(&rt, &mut other, Ok(Received::Other(Frame::Flush)));
+    receives_so(&rt, &mut other, Ok(Received::Short));
+    assert!(rt; other.stream.ended());
+    run_all(&rt, &mut other.node.replica);
+    ends(&rt, &other.node.replica, 1_026, [6_026, 2_000, 0]);
 }
 
 #[test]
@@ -151,6 +179,8 @@ fn what_came_before_a_bad_frame_is_received(rt: HostRuntime) {
     let mut other = new_stream_node(&rt);
     assert!(rt; other.stream.feed(&good) == Ok(()));
     assert!(rt; other.stream.feed(&[0, 1, 9]) == Ok(()));
-    fails_so(&rt, &mut other, bad);
+    accepts_so(&rt, &mut other, 1);
+    accepts_so(&rt, &mut other, 2);
+    receives_so(&rt, &mut other, Err(bad));
     assert!(rt; other.node.replica.length() == 2);
 }

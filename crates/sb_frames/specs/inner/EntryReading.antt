@@ -66,9 +66,8 @@ body_entry names bytes = do
   entry ← if tag.0 == 2 then entry_op_at names tag.1 else Err UnknownTag
   if length entry.1 == 0 then Ok entry.0 else Err BadLength
 
--- the entry at the front of the bytes, and the number of bytes that it takes, or a fault if none is
-unfoldable pub first_entry : List (List ℕ) → List ℕ → Result (EntryOp × ℕ) FrameFault
+-- the entry at the front of the bytes, or a fault if none is
+unfoldable pub first_entry : List (List ℕ) → List ℕ → Result EntryOp FrameFault
 first_entry names bytes = do
   size ← frame_size bytes
-  entry ← body_entry names (take (size - 2) (drop 2 bytes))
-  Ok (entry, size)
+  body_entry names (take (size - 2) (drop 2 bytes))

@@ -18,7 +18,7 @@ use Rattle.sb_calls.specs.SerialRun.{inputs_of, contents_after_first, reply_by_l
 use Rattle.sb_calls.specs.declared.op.Op.{Op}
 use Rattle.sb_calls.specs.declared.reply.Reply.{Reply}
 use Rattle.sb_checkpoint.specs.Checkpoint.{CheckpointOf}
-use Rattle.sb_replica_log.specs.Offers.{board_with_entry}
+use Rattle.sb_replica.specs.Offers.{board_with_entry}
 use Rattle.schedule_player.specs.ReplicaOfLog.{AreReplies, IsBoardOfLog, IsCheckpointOfLog}
 use Rattle.schedule_player.specs.inner.JobOfLog.{IsJobOfLog}
 use Rattle.cown_board.proofs.LogLaws.{no_some as none_some}

@@ -10,7 +10,7 @@ use Rattle.cown_board.specs.State.{is_unfinished, is_waiting, state_is}
 use Rattle.cown_board.specs.declared.state.State.{State}
 use Rattle.cown_board.specs.declared.state.State.TheVariants.{Waiting, Out, Finished}
 use Rattle.sb_calls.specs.declared.op.Op.{Op}
-use Rattle.sb_replica_log.specs.Offers.{board_with_entry}
+use Rattle.sb_replica.specs.Offers.{board_with_entry}
 use Rattle.schedule_player.specs.Readiness.{stage_is}
 use Rattle.schedule_player.specs.MachineView.{stage_of, stages_of}
 use Rattle.schedule_player.specs.Stage.{Stage, Waits, IsOut, IsDone, waits, is_undone}

@@ -29,7 +29,7 @@ use Rattle.sb_replica.specs.declared.fault.MarkFault.TheVariants as fault
 use Rattle.sb_replica.specs.declared.fault.RestartFault.{RestartFault}
 use Rattle.sb_replica.specs.declared.fault.RestartFault.TheVariants as restart
 use Rattle.sb_replica.proofs.IdleReplies.{length_held}
-use Rattle.sb_replica_log.specs.Log.{none_held as empty_held}
+use Rattle.sb_replica.specs.Log.{none_held as empty_held}
 use Rattle.schedule_player.specs.ReplicaOfLog.{IsBoardOfLog, AreHeldOfLog}
 use Rattle.schedule_player.specs.Bank.{BankOf, opening_total}
 use Rattle.schedule_player.specs.inner.NodeInvariant.{machine_node, IsNodeAt, IsUnchanged, MovesTo}

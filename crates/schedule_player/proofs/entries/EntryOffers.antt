@@ -14,10 +14,10 @@ use Rattle.sb_replica.proofs.AcceptedEntries.{next_number}
 use Rattle.sb_replica.specs.Frames.{entry_answer, next_entry_answer}
 use Rattle.sb_replica.specs.declared.heard.Heard.{Heard}
 use Rattle.sb_replica.specs.declared.heard.Heard.TheVariants as heard
-use Rattle.sb_replica_log.specs.Log.{LogOf}
-use Rattle.sb_replica_log.specs.Offers.{board_with_entry, log_with_entry, next_offer_answer, offer_answer, after_offer, after_held_op, after_advance}
-use Rattle.sb_replica_log.specs.declared.offered.Offered.{Offered}
-use Rattle.sb_replica_log.specs.declared.offered.Offered.TheVariants as offer
+use Rattle.sb_replica.specs.Log.{LogOf}
+use Rattle.sb_replica.specs.Offers.{board_with_entry, log_with_entry, next_offer_answer, offer_answer, after_offer, after_held_op, after_advance}
+use Rattle.sb_replica.specs.declared.offered.Offered.{Offered}
+use Rattle.sb_replica.specs.declared.offered.Offered.TheVariants as offer
 use Rattle.schedule_player.specs.ReplicaOfLog.{IsBoardOfLog, AreHeldOfLog}
 use Rattle.schedule_player.specs.Bank.{BankOf}
 use Rattle.schedule_player.specs.OneBased.{nth_item}

@@ -22,8 +22,8 @@ use Rattle.sb_replica.specs.Replica.{ReplicaOf, log_of, with_log}
 use Rattle.sb_replica.specs.declared.fault.ReplicaFault.{ReplicaFault}
 use Rattle.sb_replica.specs.declared.fault.ReplicaFault.TheVariants.{BadFrame, OutOfMemory}
 use Rattle.sb_replica.specs.declared.heard.Heard.{Heard}
-use Rattle.sb_replica_log.specs.Log.{LogOf}
-use Rattle.sb_replica_log.specs.Offers.{offer_answer, after_offer, after_advance}
+use Rattle.sb_replica.specs.Log.{LogOf}
+use Rattle.sb_replica.specs.Offers.{offer_answer, after_offer, after_advance}
 use Rattle.schedule_player.specs.Bank.{BankOf, log_reply}
 use Rattle.schedule_player.specs.inner.NodeInvariant.{machine_node, IsNodeAt, MovesTo}
 use Rattle.schedule_player.specs.FramesOfLog.{IsEntryOf, IsSentBy}

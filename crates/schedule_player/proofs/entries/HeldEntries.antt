@@ -7,8 +7,8 @@ use Rattle.std.proofs.lemmas.Option.{slice_get_within}
 use Rattle.cown_board.proofs.PositionLaws.{slice_get-left}
 use Rattle.cown_board.proofs.StateChanges.{slice_get-set_same, slice_get-set_other}
 use Rattle.sb_calls.specs.declared.op.Op.{Op}
-use Rattle.sb_replica_log.specs.Log.{none_held as empty_held}
-use Rattle.sb_replica_log.specs.declared.replica_log.TheConstants.{HELD_ENTRIES}
+use Rattle.sb_replica.specs.Log.{none_held as empty_held}
+use Rattle.sb_replica.specs.declared.replica_log.TheConstants.{HELD_ENTRIES}
 use Rattle.schedule_player.specs.ReplicaOfLog.{AreHeldOfLog}
 use Rattle.schedule_player.specs.ReplicaMoves.{empty_buffer}
 use Rattle.schedule_player.proofs.Lists.{pushed_cases}

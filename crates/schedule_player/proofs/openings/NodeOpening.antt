@@ -9,7 +9,7 @@ use Rattle.sb_calls.specs.Cowns.{contents_of}
 use Rattle.sb_calls.specs.declared.call.TheConstants.{LOG_CALLS}
 use Rattle.sb_calls.specs.declared.op.Op.{Op}
 use Rattle.sb_checkpoint.specs.Reading.{stated_reply_count}
-use Rattle.sb_replica_log.specs.Log.{none_held as empty_held}
+use Rattle.sb_replica.specs.Log.{none_held as empty_held}
 use Rattle.schedule_player.specs.ReplicaOfLog.{IsBoardOfLog}
 use Rattle.schedule_player.specs.Bank.{BankOf}
 use Rattle.schedule_player.specs.inner.NodeInvariant.{number_in, machine_node, IsHandOfLog, IsStateOfLog, IsNodeAt}

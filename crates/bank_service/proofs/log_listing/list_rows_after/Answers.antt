@@ -81,7 +81,8 @@ returns-clause-listed c =
       primary.node.names,
       columns,
       rows_after_log text opening c.args.found.log.value.log c.in_ok-primary.primary primary columns read c.in_ok-primary.ensures.log
-          (ap (λ (n : ReplicaOf _). n.names) node) (ap (λ (n : ReplicaOf _). n.board.opening) node) c.settle.ensures.log c.settle.ensures.serves.bank rows,
+          (ap (λ (n : ReplicaOf _). n.names) node) (ap (λ (n : ReplicaOf _). n.board.opening) node)
+          (ap (λ p. p.log) c.settle.ensures.unchanged) c.settle.ensures.serves.bank rows,
       listed_is (map customer_line (customers_of c.directory.result.now columns)) c.new-listed.result.items c.list_customers.new.out.items
           c.extend_from_slice.new.self.items c.new-listed.ensures.items c.in_ok-list_customers.ensures c.in_ok-extend_from_slice.ensures.items
           ∙ ap (λ (d : List (List ℕ)). unlines (opening_lines (customers_of d columns))) names,

@@ -1,12 +1,15 @@
-use Rattle.std.proofs.Common.{◌≡◌, ℕ, ◌+◌, ◌-◌, List, ◌++◌, map, take, drop, sym, ap, ◌∙◌, arith, append_assoc, rules}
+use Rattle.std.proofs.Common.{◌≡◌, ℕ, ◌+◌, ◌-◌, List, ◌++◌, length, length-append, map, take, drop, sym, ap, subst, ◌∙◌, arith, append_assoc, rules}
 use Rattle.std.proofs.Math.Seq.{take-add}
-use Rattle.std.proofs.lemmas.List.{map-append}
+use Rattle.std.proofs.lemmas.List.{drop-map, length-map, length-take-le, map-append, take-append-drop}
+use Rattle.cown_board.specs.Board.{length_of}
 use Rattle.std.proofs.lemmas.Result.{err_from_is_err_and}
 use Rattle.sb_calls.specs.Op.{op_of}
 use Rattle.sb_calls.specs.declared.call.Call.{Call}
 use Rattle.sb_calls.specs.declared.op.Op.{Op}
 use Rattle.sb_replica.specs.Replica.{RestOf}
 use Rattle.bank_server.proofs.boards.LogOps.{fault_behind}
+use Rattle.bank_server.proofs.boards.NodeTurns.{goes_on, part_next}
+use Rattle.bank_server.specs.inner.Appends.{HasOpsAt}
 use Rattle.bank_server.proofs.node0.execution.submit_parts.Goals as goal
 
 -- one more part is looked up and submitted
@@ -36,6 +39,24 @@ loop-done-preserved g c =
       within = omega (arith, c.min.ensures, kept.within, c.loop-done-test.true);
       none_out = λ none. put.none_out (kept.none_out none);
       beside = c.submit_all.ensures.rest ∙ kept.beside;
+      turns = λ log has.
+          let f = op_of c.args.replica.now.names in
+          let left = drop done calls in
+          let m = done + c.min.result - done in
+          let parted : drop done (map f calls) ≡ map f part ++ map f (drop m left) =
+          drop-map f done calls ∙ ap (map f) (sym (take-append-drop m left)) ∙ map-append f part (drop m left) in
+          let many = length-map calls f in
+          let next = part_next log (map f calls) (map f part) (map f (drop m left)) (length_of c.args.replica.now.board) done has parted
+          (omega (arith, many, kept.within)) in
+          let replies = ap length kept.base_replies in
+          let longer = ap length kept.log in
+          let both = length-append c.args.replica.now.board.log (map f (take done calls)) in
+          let taken = length-map (take done calls) f ∙ length-take-le done calls kept.within in
+          let size : length_of c.loop-done.replica.board ≡ length_of c.args.replica.now.board + done =
+          omega (arith, replies, longer, both, taken) in
+          goes_on log (kept.turns log has)
+          (c.in_ok-submit_all.ensures.turns log
+          (subst (HasOpsAt log (length_of c.loop-done.replica.board)) (sym looked_up) (subst (λ n. HasOpsAt log n (map f part)) (sym size) next)));
       sent = search rules;
       stays = search rules;
     }

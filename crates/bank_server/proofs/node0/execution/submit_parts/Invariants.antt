@@ -1,7 +1,11 @@
-use Rattle.std.proofs.Common.{◌≡◌, ◌++◌, ◌-◌, ◌≤◌, length, map, take}
+use Rattle.std.proofs.Common.{◌≡◌, ◌++◌, ◌-◌, ◌≤◌, List, length, map, take}
+use Rattle.cown_board.specs.Board.{length_of}
 use Rattle.sb_calls.specs.Op.{op_of}
+use Rattle.sb_calls.specs.declared.op.Op.{Op}
 use Rattle.cown_workers.specs.Draining.{HasNoneOut}
 use Rattle.sb_replica.specs.Replica.{rest_of}
+use Rattle.bank_server.specs.NodeTurns.{TurnsLead}
+use Rattle.bank_server.specs.inner.Appends.{HasOpsAt}
 use Rattle.bank_server.proofs.node0.execution.submit_parts.Given as goal
 
 -- the calls so far are submitted
@@ -14,6 +18,8 @@ invariant-loop-done g l = record {
   within : l.done ≤ length l.calls;
   none_out : HasNoneOut l.fn.replica.board → HasNoneOut l.replica.board;
   beside : rest_of l.replica ≡ rest_of l.fn.replica;
+  turns : (log : List Op) → HasOpsAt log (length_of l.fn.replica.board) (map (op_of l.fn.replica.names) l.calls)
+      → TurnsLead log l.fn.replica l.replica;
   sent : l.done ≤ l.followers.sent;
   stays : l.followers ≡ record l.fn.followers { sent = l.followers.sent };
 }

@@ -1,4 +1,4 @@
-use Rattle.std.proofs.Common.{◌≡◌, [], ℕ, List, refl, sym, subst, ◌∙◌}
+use Rattle.std.proofs.Common.{ap, ◌≡◌, [], ℕ, List, refl, sym, subst, ◌∙◌}
 use Rattle.std.specs.Prelude.{IfSome, slice_get}
 use Rattle.std.proofs.lemmas.Result.{err_from_is_err_and}
 use Rattle.sb_calls.specs.declared.ask.Key.{Key}
@@ -31,7 +31,7 @@ returns-then-is_empty-clause-served g c =
     turn_served opening (g.A.Arrivals.coming c.args.arrivals.now) (g.A.Arrivals.coming mid.arrivals) old.log c.args.clients.now mid.primary.log mid.clients
     mid.clients took.taken (λ asks past are. are) none_due refl in
     ok_always c.offer_rest.result (subst (λ (l : List (Key × Call)). ServesTurn (IsServed opening) (g.A.Arrivals.coming c.args.arrivals.now)
-    (g.A.Arrivals.coming mid.arrivals) old.log c.args.clients.now l mid.clients) (sym c.offer_rest.ensures.log) turn)
+    (g.A.Arrivals.coming mid.arrivals) old.log c.args.clients.now l mid.clients) (sym (ap (λ p. p.log) c.offer_rest.ensures.unchanged)) turn)
 
 pub returns-in_err-take_arrivals-clause-serves : goal.returns-in_err-take_arrivals-clause-serves
 returns-in_err-take_arrivals-clause-serves g c =

@@ -65,7 +65,7 @@ returns-clause-leads g c =
     leads_session (opening_rows_of old) (session_state old.log c.args.inbox.now start) before new unread c.args.bytes.now mid.inbox.stream.unread
     (c.in_ok-taken.ensures.handles []) refl writes in
     ok_always c.offer_rest.result (subst (λ (l : List (Key × Call)). LeadsSession (opening_rows_of old) (session_state old.log c.args.inbox.now start) unread
-    c.args.bytes.now (session_state l due.inbox (g.W.Write.contents due.writer)) due.inbox.stream.unread) (sym c.offer_rest.ensures.log)
+    c.args.bytes.now (session_state l due.inbox (g.W.Write.contents due.writer)) due.inbox.stream.unread) (sym (ap (λ p. p.log) c.offer_rest.ensures.unchanged))
     (subst (λ (s : StreamState). LeadsSession (opening_rows_of old) (session_state old.log c.args.inbox.now start) unread c.args.bytes.now new s.unread)
     (sym c.write_due.ensures.stream) leads))
 
@@ -80,7 +80,7 @@ returns-clause-stops g c =
     (session_state c.offer_rest.new.self.log due.inbox (g.W.Write.contents due.writer))
     (on_ok_weaker c.take_bytes-taken.result (λ handles. handles []) c.take_bytes-taken.ensures.handles)
     (if_err c.take_bytes-taken.result (λ own stops. stops []) c.take_bytes-taken.ensures.stops) refl (flush_of_settle fault is)
-    (c.offer_rest.ensures.log ∙ c.write_due.ensures.log)) c.offer_rest.ensures.fault
+    (ap (λ p. p.log) c.offer_rest.ensures.unchanged ∙ c.write_due.ensures.log)) c.offer_rest.ensures.fault
 
 pub returns-in_err-taken-clause-serves : goal.returns-in_err-taken-clause-serves
 returns-in_err-taken-clause-serves g c =

@@ -30,10 +30,10 @@ returns-in_err-settle-clause-cut_short g c =
     let settled = c.in_err-settle.ensures in
     let log = c.settle.new.self.log in
     let at : SessionState = record { client = record { log = old.log; pending = []; due = 0; outcomes = [] }; written = start } in
-    let is : IsLog old.log = subst IsLog settled.log settled.one_each in
+    let is : IsLog old.log = subst IsLog (ap (λ p. p.log) settled.unchanged) settled.one_each in
     rw (p.1, p.2) (of_front (λ input. ServesUntilFault (opening_rows_of old) old.log log start start input fault) given given [] (consumes_nothing given)
     (λ behind. ended_by fault (opening_rows_of old) old.log start [] behind at [] log start (flush_of_settle fault settled.fault)
-    (heard_nothing (opening_rows_of old) old.log start at is refl) settled.log))
+    (heard_nothing (opening_rows_of old) old.log start at is refl) (ap (λ p. p.log) settled.unchanged)))
 
 pub loop-init : goal.loop-init
 loop-init g c =
@@ -41,7 +41,7 @@ loop-init g c =
     let start = g.W.Write.contents c.args.writer.now in
     let settled = c.in_ok-settle.ensures in
     let inbox = c.new-inbox.result in
-    let is : IsLog old.log = subst IsLog settled.log settled.one_each in
+    let is : IsLog old.log = subst IsLog (ap (λ p. p.log) settled.unchanged) settled.one_each in
     let unread : [] ≡ inbox.stream.unread = ap (λ (s : StreamState). s.unread) (sym c.new-inbox.ensures.stream) in
     let at = session_state c.settle.new.self.log inbox start in
     record {
@@ -51,7 +51,7 @@ loop-init g c =
           (heard_nothing (opening_rows_of old) old.log start at is
           (λ j. record {
             client = record {
-              log = settled.log j;
+              log = (ap (λ p. p.log) settled.unchanged) j;
               pending = c.new-inbox.ensures.pending j;
               due = c.new-inbox.ensures.due j;
               outcomes = [];

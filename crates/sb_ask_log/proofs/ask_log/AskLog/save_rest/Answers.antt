@@ -53,7 +53,7 @@ returns-in_err-append-clause-keeps g c keeps =
     (record { log = s.log; text = s.text.items; hasher = s.hasher; saved = s.saved }) (take s.saved log) =
     subst (λ (a : AskLogOf g.row.F.Denot). KeepsAsks {F = g.row.F.Denot} g.F.LogFile.IsHonest g.F.LogFile.content g.F.LogFile.synced a (take a.saved log))
     (sym c.self.view_is) keeps in
-    let ill = c.in_err-append.ensures.failed.0 in
+    let ill = c.in_err-append.ensures.failed.1 in
     let now : KeepsAsks {F = g.row.F.Denot} g.F.LogFile.IsHonest g.F.LogFile.content g.F.LogFile.synced
     (record { log = c.append.new.self; text = s.text.items; hasher = s.hasher; saved = s.saved }) (take s.saved log) = record {
       saved_is = was.saved_is;
@@ -91,7 +91,7 @@ returns-in_err-sync-clause-keeps g c keeps =
     (record { log = s.log; text = s.text.items; hasher = s.hasher; saved = s.saved }) (take s.saved log) =
     subst (λ (a : AskLogOf g.row.F.Denot). KeepsAsks {F = g.row.F.Denot} g.F.LogFile.IsHonest g.F.LogFile.content g.F.LogFile.synced a (take a.saved log))
     (sym c.self.view_is) keeps in
-    let ill = c.in_err-sync.ensures.failed.0 in
+    let ill = c.in_err-sync.ensures.failed.1 in
     let now : KeepsAsks {F = g.row.F.Denot} g.F.LogFile.IsHonest g.F.LogFile.content g.F.LogFile.synced
     (record { log = c.sync.new.self; text = s.text.items; hasher = s.hasher; saved = s.saved }) (take s.saved log) = record {
       saved_is = was.saved_is;
@@ -159,19 +159,19 @@ returns-clause-keeps g c keeps =
 pub returns-in_err-append-clause-fault : goal.returns-in_err-append-clause-fault
 returns-in_err-append-clause-fault g c =
     let p = err_from_is_err_and c.from_residual-in_err-append.result c.from_residual-in_err-append.ensures.1 in
-    rw (p.1, p.2, c.in_err-append.ensures.fault) (
-      c.in_err-append.ensures.failed.0,
+    rw (p.1, p.2, c.in_err-append.ensures.failed.0) (
+      c.in_err-append.ensures.failed.1,
       subst (λ (a : AskLogOf g.row.F.Denot). (a.log.failed ≡ true) ⊎ (g.F.LogFile.has_failed c.append.new.self.file ≡ true)) c.self.view_is
-          c.in_err-append.ensures.failed.1,
+          c.in_err-append.ensures.failed.2,
     )
 
 pub returns-in_err-sync-clause-fault : goal.returns-in_err-sync-clause-fault
 returns-in_err-sync-clause-fault g c =
     let p = err_from_is_err_and c.from_residual-in_err-sync.result c.from_residual-in_err-sync.ensures.1 in
-    rw (p.1, p.2, c.in_err-sync.ensures.fault) (
-      c.in_err-sync.ensures.failed.0,
+    rw (p.1, p.2, c.in_err-sync.ensures.failed.0) (
+      c.in_err-sync.ensures.failed.1,
       ⊎_elim
           (λ (ill : c.append.new.self.failed ≡ true). absurd (true≢false (sym ill ∙ c.in_ok-append.ensures.ok.1)))
           (λ (fails : g.F.LogFile.has_failed c.sync.new.self.file ≡ true). inr fails)
-          c.in_err-sync.ensures.failed.1,
+          c.in_err-sync.ensures.failed.2,
     )

@@ -14,7 +14,5 @@ returns c =
     let seen = c.deref.ensures ∙ ap (λ (old : StreamState). old.unread) c.self.view_is in
     let left = c.advance.ensures.items ∙ ap (drop c.unwrap-size.result) (sym c.deref.ensures) in
     let sized = sym c.frame_size.ensures.exact ∙ c.unwrap-size.ensures in
-    record {
-      step = skipped c.args.self.now c.deref.result.now c.advance.new.self.items c.self.inside.broken c.unwrap-size.result c.requires seen
-          (ap (λ (old : StreamState). old.failed) c.self.view_is) sized left;
-    }
+    skipped c.args.self.now c.deref.result.now c.advance.new.self.items c.self.inside.broken c.unwrap-size.result c.requires seen
+    (ap (λ (old : StreamState). old.failed) c.self.view_is) sized left

@@ -1,7 +1,7 @@
 use Rattle.std.proofs.Common.{length, refl, ap, ◌∙◌}
 use Rattle.std.proofs.lemmas.Result.{err_from_is_err_and}
 use Rattle.sb_rows.specs.Balances.{Balances}
-use Rattle.sb_replica_log.specs.Log.{LogOf}
+use Rattle.sb_replica.specs.Log.{LogOf}
 use Rattle.sb_replica.proofs.AdoptedStates.{adopts}
 use Rattle.sb_replica.proofs.KeptStates.{is_state}
 use Rattle.sb_replica.proofs.Refusals.{adopt_refusal}

@@ -1,7 +1,7 @@
 use Rattle.std.proofs.Common.{◌≡◌, ℕ, ◌+◌, suc, Ok, sym, subst, ◌∙◌, arith}
 use Rattle.cown_board.specs.Board.{length_of}
-use Rattle.sb_replica_log.specs.Log.{next_held}
-use Rattle.sb_replica_log.specs.Offers.{after_advance, next_offer_answer}
+use Rattle.sb_replica.specs.Log.{next_held}
+use Rattle.sb_replica.specs.Offers.{after_advance, next_offer_answer}
 use Rattle.sb_replica.proofs.ChangedLogs.{log_changes}
 use Rattle.sb_replica.specs.Replica.{ReplicaOf, log_of}
 use Rattle.sb_replica.proofs.replica.Replica.advance.Goals as goal

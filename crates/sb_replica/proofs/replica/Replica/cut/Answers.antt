@@ -5,4 +5,5 @@ use Rattle.sb_replica.proofs.replica.Replica.cut.Goals as goal
 
 pub returns-clause-made : goal.returns-clause-made
 returns-clause-made g c =
-    subst (λ (r : ReplicaOf g.row.S.Denot). MakesCut r.board c.cut.result c.cut.new.self.board) c.self.view_is c.cut.ensures.made
+    subst (λ (r : ReplicaOf g.row.S.Denot). MakesCut r.board c.cut.result c.cut.new.self) c.self.view_is
+    (subst (λ inside. MakesCut inside.log.board c.cut.result c.cut.new.self) c.self-inside.view_is c.cut.ensures.made)

@@ -1,8 +1,8 @@
 use Rattle.std.proofs.Common.{◌≡◌, Ok, suc, subst}
 use Rattle.std.specs.Prelude.{IfOk, OnErr}
 use Rattle.cown_board.specs.Board.{length_of}
-use Rattle.sb_replica_log.specs.Offers.{after_offer, offer_answer}
-use Rattle.sb_replica_log.specs.declared.offered.Offered.TheVariants.{Next}
+use Rattle.sb_replica.specs.Offers.{after_offer, offer_answer}
+use Rattle.sb_replica.specs.declared.offered.Offered.TheVariants.{Next}
 use Rattle.sb_replica.proofs.ChangedLogs.{answered_log_changes}
 use Rattle.sb_replica.specs.Replica.{ReplicaOf}
 use Rattle.sb_replica.proofs.replica.Replica.offer_entry.Goals as goal

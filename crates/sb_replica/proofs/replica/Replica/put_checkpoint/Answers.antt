@@ -1,33 +1,38 @@
 use Rattle.std.proofs.Common.{◌≡◌, None, Ok, inl, refl, rules, ap, subst, ◌∙◌}
 use Rattle.sb_checkpoint.specs.Stores.{StoreDoes, Put}
-use Rattle.sb_replica_log.specs.Log.{LogOf}
+use Rattle.cown_board.specs.Board.{BoardOf, length_of}
+use Rattle.sb_calls.specs.declared.op.Op.{Op}
+use Rattle.sb_replica.specs.Log.{LogOf}
 use Rattle.sb_replica.specs.Replica.{ReplicaOf}
+use Rattle.sb_replica.specs.inner.Rotation.{in_order_after}
 use Rattle.sb_replica.proofs.replica.Replica.put_checkpoint.Goals as goal
 
 pub returns-in-Ok-put-clause-ok : goal.returns-in-Ok-put-clause-ok
 returns-in-Ok-put-clause-ok g c =
     let store = g.S.CheckpointStore in
     let old = c.args.self.now in
-    let node = c.self.inside in
     let put : StoreDoes store.model old.store (Put c.in-Ok.bytes.items (Ok tt)) c.put.new.self = search rules in
     let here : ReplicaOf g.row.S.Denot → ReplicaOf g.row.S.Denot = λ r. record r { board = record r.board { cut = None }; store = c.put.new.self } in
-    let stays : record {
-      id = node.id;
-      names = node.directory;
-      opening = node.opening;
-      board = c.drop_cut.new.self.board;
-      held = c.drop_cut.new.self.held;
+    let raw = c.self-inside.inside.0 in
+    let with_board : BoardOf Op → ReplicaOf g.row.S.Denot = λ b. record {
+      id = raw.0;
+      names = raw.1.1.0;
+      opening = raw.1.1.1.0;
+      board = b;
+      held = in_order_after (length_of b) raw.1.1.1.1.0.held;
       store = c.put.new.self;
-    } ≡ here old =
-    ap (λ (log : LogOf). record {
-      id = node.id;
-      names = node.directory;
-      opening = node.opening;
-      board = log.board;
-      held = log.held;
+    } in
+    let stays : with_board c.drop_cut.new.self ≡ here old =
+    ap with_board c.drop_cut.ensures
+    ∙ ap (λ inside. record {
+      id = inside.id;
+      names = inside.directory;
+      opening = inside.opening;
+      board = record inside.log.board { cut = None };
+      held = inside.log.held;
       store = c.put.new.self;
     })
-    c.drop_cut.ensures ∙ ap here c.self.view_is in (
+    c.self-inside.view_is ∙ ap here c.self.view_is in (
       record {
         idle = c.in-Some.ensures.value.0;
         columns = c.in-Some.columns.now;

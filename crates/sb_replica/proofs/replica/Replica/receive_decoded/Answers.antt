@@ -3,9 +3,9 @@ use Rattle.std.proofs.lemmas.Result.{err_from_is_err_and}
 use Rattle.cown_board.specs.Board.{length_of}
 use Rattle.sb_calls.specs.Op.{op_of}
 use Rattle.sb_calls.specs.declared.op.Op.{Op}
-use Rattle.sb_replica_log.specs.Offers.{after_offer, offer_answer}
-use Rattle.sb_replica_log.specs.declared.offered.Offered.{Offered}
-use Rattle.sb_replica_log.specs.declared.offered.Offered.TheVariants.{Next}
+use Rattle.sb_replica.specs.Offers.{after_offer, offer_answer}
+use Rattle.sb_replica.specs.declared.offered.Offered.{Offered}
+use Rattle.sb_replica.specs.declared.offered.Offered.TheVariants.{Next}
 use Rattle.sb_replica.proofs.ChangedLogs.{log_changes}
 use Rattle.sb_replica.specs.Frames.{after_frame, entry_answer, frame_answer}
 use Rattle.sb_replica.specs.Replica.{ReplicaOf, log_of, with_log}

@@ -45,15 +45,13 @@ loop-place-preserved g c =
 pub returns-clause-value : goal.returns-clause-value
 returns-clause-value g c =
     let board = c.args.self.now.board in
-    let beside = subst (λ r. length r.board.log ≡ length r.board.states) c.self.view_is c.length-length.ensures.same_length in
+    let beside = c.length-length.ensures.same_length in
     let all : c.loop-place.place ≡ length (board_replies board) =
     omega (
       arith,
       c.loop-place-test.false,
       c.loop-place.auto.place-end,
       c.length-length.ensures.value,
-      ap
-          (λ r. length_of r.board) c.self.view_is,
       length_held board c.requires beside,
     ) in
     c.loop-place.invariant.items ∙ ap (λ n. take n (board_replies board)) all ∙ take-length (board_replies board)
@@ -76,9 +74,8 @@ returns-in_err-replies g c =
 pub unwrap-requires : goal.unwrap-requires
 unwrap-requires g c =
     is_there c.args.self.now.board c.loop-place.place c.reply.result c.requires
-    (subst (λ r. length r.board.log ≡ length r.board.states) c.self.view_is c.length-length.ensures.same_length)
-    (subst (λ n. c.loop-place.place < n)
-    (c.length-length.ensures.value ∙ ap (λ r. length_of r.board) c.self.view_is) c.loop-place-test.true) c.reply.ensures.value
+    c.length-length.ensures.same_length
+    (subst (λ n. c.loop-place.place < n) c.length-length.ensures.value c.loop-place-test.true) c.reply.ensures.value
 
 pub returns-clause-valid : goal.returns-clause-valid
 returns-clause-valid g c = c.loop-place.invariant.valid

@@ -50,6 +50,6 @@ returns-clause-ok g c =
       content = option_map (λ bytes. bytes.items) c.in_ok-content.content;
       got = c.in_ok-content.ensures;
       board = c.in_ok-log.ensures.log;
-      length_is = c.length.ensures.value ∙ ap (λ (r : ReplicaOf g.row.S.Denot). length_of r.board) (c.self-2.view_is ∙ gone_on);
+      length_is = c.length.ensures.value ∙ ap (λ (r : ReplicaOf g.row.S.Denot). length_of r.board) gone_on;
       stays = ap holding c.in_ok-log.ensures.no_held_entry;
     }))

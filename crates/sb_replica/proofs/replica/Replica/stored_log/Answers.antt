@@ -4,7 +4,7 @@ use Rattle.cown_board.specs.BoardCalls.{board_at_opening}
 use Rattle.sb_rows.specs.Balances.{Balances}
 use Rattle.sb_checkpoint.specs.Checkpoint.{SpellsFor}
 use Rattle.sb_checkpoint.specs.Reading.{first_fault, IsRefusedBy}
-use Rattle.sb_replica_log.specs.Log.{LogOf}
+use Rattle.sb_replica.specs.Log.{LogOf}
 use Rattle.sb_replica.specs.Replica.{ReplicaOf, origin_of}
 use Rattle.sb_replica.proofs.Refusals.{refusal_of}
 use Rattle.sb_replica.proofs.RightHeads.{right_head}

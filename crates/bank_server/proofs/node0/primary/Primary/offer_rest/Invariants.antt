@@ -1,6 +1,8 @@
 use Rattle.std.proofs.Common.{◌≡◌, ◌+◌, false, length}
 use Rattle.cown_workers.specs.Draining.{HasNoneOut}
 use Rattle.sb_replica.specs.Replica.{rest_of}
+use Rattle.bank_server.specs.NodeTurns.{TurnsLead}
+use Rattle.bank_server.specs.Primary.{log_ops}
 use Rattle.bank_server.specs.inner.KeptPrimary.{IsKeptPrimary}
 use Rattle.bank_server.proofs.node0.primary.Primary.offer_rest.Given as goal
 
@@ -20,5 +22,6 @@ invariant-loop-number g l = record {
   count : length l.self-inside.node.value.board.log + 1 ≡ l.number;
   opening : l.self-inside.node.value.board.opening ≡ l.fn.self.node.board.opening;
   beside : rest_of l.self-inside.node.value ≡ rest_of l.fn.self.node;
+  turns : TurnsLead (log_ops l.fn.self.node.names l.fn.self.log) l.fn.self.node l.self-inside.node.value;
   none_out : g.C.Crew.keeps ≡ false → HasNoneOut l.fn.self.node.board → HasNoneOut l.self-inside.node.value.board;
 }

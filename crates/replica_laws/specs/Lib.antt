@@ -1,0 +1,5 @@
+pub mod AskAppends
+pub mod FollowerEvents
+pub mod FollowerMoves
+pub mod Node0Events
+pub mod Node0Moves

@@ -1,4 +1,0 @@
-pub mod HeldLists
-pub mod LogInvariant
-pub mod LogView
-pub mod Rotations

@@ -1,3 +1,0 @@
-pub mod Log
-pub mod Offers
-pub mod inner
