@@ -57,38 +57,30 @@ fn open(alloc: Global, opening: Opening) -> Result<Box<Replica<MemoryStore>>, Al
     Ok(Box::new(alloc, replica)?)
 }
 
-// The replica receives the whole stream.
+// The replica receives the whole stream. If it is refused memory, the same call goes on.
 fn receive(
     replica: &mut Replica<MemoryStore>,
     stream: &mut Stream,
     report: &mut Report,
 ) -> Result<(), CaseFault> {
-    for _ in 0..ENTRIES {
-        if !matches!(receive_one(replica, stream, report)?, Received::Entry(_)) {
-            return Err(CaseFault::Unfinished);
-        }
-    }
-    if receive_one(replica, stream, report)? != Received::Short {
-        return Err(CaseFault::Unfinished);
-    }
-    Ok(())
-}
-
-// The replica receives the next frame. If it is refused memory, the same call goes on.
-fn receive_one(
-    replica: &mut Replica<MemoryStore>,
-    stream: &mut Stream,
-    report: &mut Report,
-) -> Result<Received, CaseFault> {
     // The checker takes the stream apart, and needs the types spelled out.
     let _parts: Option<(Frame, Call, Reply, AskOutcome)> = None;
-    match replica.receive(stream) {
-        Err(ReceiveFault::OutOfMemory) => {
-            report.refused("Replica::receive")?;
-            Ok(replica.receive(stream)?)
+    // As many entries, and then nothing more.
+    for _ in 0..ENTRIES + 1 {
+        let received = match replica.receive(stream) {
+            Err(ReceiveFault::OutOfMemory) => {
+                report.refused("Replica::receive")?;
+                replica.receive(stream)?
+            }
+            received => received?,
+        };
+        match received {
+            Received::Entry(_) => {}
+            Received::Short => return Ok(()),
+            Received::Other(_) | Received::Busy => return Err(CaseFault::Unfinished),
         }
-        received => Ok(received?),
     }
+    Err(CaseFault::Unfinished)
 }
 
 fn report_replica(
