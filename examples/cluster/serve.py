@@ -21,6 +21,7 @@ from etcd import TELL_SECONDS, LogError, Tell
 
 LOOK_SECONDS = 0.05
 SESSIONS = 1000  # the most that a bank without a log of its own takes
+DAY_SECONDS = 86_400
 SIGNAL_OF_PARENTS_DEATH = 1  # PR_SET_PDEATHSIG
 LIBRARY = ctypes.CDLL(None)
 
@@ -67,7 +68,8 @@ class Keeper:
         """Starts the bank. What it prints stands in a file that begins with its log's prefix, and with when it was started."""
         words = [self.options.program, "serve", "--port", f"{self.options.port}", "--store", place.own]
         words += ["--workers", f"{self.options.workers}"]
-        words += ["--log", place.own] if self.options.log else ["--sessions", f"{SESSIONS}"]
+        # The feed may have nothing to say for long.
+        words += ["--log", place.own, "--patience", f"{DAY_SECONDS}"] if self.options.log else ["--sessions", f"{SESSIONS}"]
         place.bank_output.unlink(missing_ok=True)
         with place.opening.open("rb") as opening, place.bank_output.open("wb") as output:
             output.write(f"of {place.prefix}\nsince {time.time_ns()}\n".encode())

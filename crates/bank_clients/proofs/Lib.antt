@@ -1,1 +1,4 @@
+pub mod Deliveries
 pub mod Histories
+pub mod Leaving
+pub mod Places

@@ -1,8 +1,8 @@
 -- The sessions of clients who are served at once.
-use Rattle.std.specs.Prelude.{◌≡◌, ℕ, Option, Some, Err, List, [], ◌∷◌}
-use Rattle.bank_server.specs.Clients.{ClientOf, ClientsOf, End, Piece}
-use Rattle.bank_server.specs.declared.session.session_fault.SessionFault.TheVariants.{Device}
-use Rattle.bank_clients.specs.History.{OutsideOf}
+use Rattle.std.specs.Prelude.{◌≡◌, ◌⊎◌, ℕ, Bool, true, Option, Some, is_some, List, [], IfSome, slice_get}
+use Rattle.std.specs.List.{All, Contains}
+use Rattle.bank_server.specs.Clients.{ClientOf, ClientsOf, End, IsReady, OutgoingOf, Piece}
+use Rattle.bank_clients.specs.History.{IsOver, OutsideOf}
 
 -- connections, the clients there, and the places of those who ended and aren't left yet
 pub record SessionsOf (A : Type 0) : Type 0 where
@@ -11,15 +11,33 @@ pub record SessionsOf (A : Type 0) : Type 0 where
   pub leaving : List ℕ
 
 -- what is known of these connections, by what says so
-abbrev pub outside_of : {A : Type 0} → (A → Option (List (ℕ × Piece))) → (A → Option (List (ℕ × List ℕ))) → A
-    → OutsideOf
-outside_of coming sent connections = record { coming = coming connections; sent = sent connections }
+abbrev pub outside_of : {A : Type 0} → (A → Option (List (ℕ × Piece))) → (A → OutgoingOf) → A → OutsideOf
+outside_of coming outgoing connections =
+    record { coming = coming connections; sent = (outgoing connections).sent }
 
--- how a session is over whose client ended so, with these outcomes left that its connection doesn't take
-abbrev pub end_with_rest : End → List ℕ → End
-end_with_rest end [] = end
-end_with_rest end (byte ∷ rest) = Err Device
+-- the session at a place is over so
+abbrev pub IsOverAt : List ClientOf → ℕ → End → Type 0
+IsOverAt clients place end =
+    (client : ClientOf) × (slice_get clients place ≡ Some client) × IsOver client end
 
--- a client's session is over so
-abbrev pub IsOver : ClientOf → End → Type 0
-IsOver client end = (own : End) × (client.ending ≡ Some own) × (end ≡ end_with_rest own client.outcomes)
+-- the connection at a place takes no more by now, or is among those that are writable again
+abbrev pub IsUnsent : (ℕ → Bool) → List ℕ → ℕ → Type 0
+IsUnsent full writable place = (full place ≡ true) ⊎ Contains writable place
+
+-- the connection of each client who has outcomes left takes no more by now, or is among these
+abbrev pub AreSentBut : (ℕ → Bool) → List ℕ → List ClientOf → Type 0
+AreSentBut full places clients =
+    (i : ℕ) → IfSome (slice_get clients i) (λ client. (client.outcomes ≡ []) ⊎ IsUnsent full places i)
+
+-- each client who has ended is among these
+abbrev pub AreListed : List ℕ → List ClientOf → Type 0
+AreListed places clients =
+    (i : ℕ) → IfSome (slice_get clients i) (λ client. is_some client.ending ≡ true → Contains places i)
+
+-- sessions that can be served, by a log of this many calls: each client is ready for a turn, those who
+-- have ended are to be left, and those who have outcomes left wait for their connections
+pub record AreReady {A : Type 0} (outgoing : A → OutgoingOf) (writable : A → List ℕ) (calls : ℕ)
+    (sessions : SessionsOf A) : Type 0 where
+  pub ready : All (λ client. IsReady calls client) sessions.clients.all
+  pub listed : AreListed sessions.leaving sessions.clients.all
+  pub sent : AreSentBut (outgoing sessions.connections).full (writable sessions.connections) sessions.clients.all

@@ -1,46 +1,21 @@
-//! Who joins, and what goes out.
-ghost use Rattle.std.specs.Prelude.{◌≡◌, length};
+//! What goes out.
+ghost use Rattle.std.specs.Prelude.{◌≡◌, ◌∷◌, ℕ, List, [], IfSome};
 ghost use Rattle.bank_server.specs.Clients.{StaysReady};
-ghost use Rattle.bank_clients.specs.History.{OutsideOf};
-ghost use Rattle.bank_clients.specs.Sessions.{outside_of};
-ghost use Rattle.bank_clients.specs.inner.Rounds.{StandsBy};
+ghost use Rattle.bank_clients.specs.Sessions.{AreSentBut, outside_of};
+ghost use Rattle.bank_clients.specs.inner.Rounds.{StandsBy, endings_of};
 
 use crate::connections::Connections;
 use bank_server::Clients;
 
-/// Each client that came joins at its place.
-pub(crate) fn admit_all<A: Connections>(connections: &mut A, clients: &mut Clients)
-    ensures joined { StandsBy (outside_of A.coming A.sent connections.old) clients.old.all
-        (outside_of A.coming A.sent connections.new) clients.new.all }
-    ensures ready { StaysReady clients.old.all clients.new.all }
-    ensures as_many { length clients.new.all ≡ length clients.old.all }
-{
-    for _ in 0..clients.len() {
-        let Some(place) = connections.admit() else {
-            return;
-        };
-        join_at(place, clients);
-    }
-}
-
-// A client joins at a place, if there is such a place.
-fn join_at(place: usize, clients: &mut Clients)
-    ensures joined { (outside : OutsideOf) → StandsBy outside clients.old.all outside clients.new.all }
-    ensures ready { StaysReady clients.old.all clients.new.all }
-    ensures as_many { length clients.new.all ≡ length clients.old.all }
-{
-    if place >= clients.len() {
-        return;
-    }
-    clients.replace(place);
-}
-
-/// Sends the clients whom the last turn told something what their connections take of it.
+/// Sends each client whom the last turn told something as much of it as its connection takes.
 pub(crate) fn deliver_new<A: Connections>(connections: &mut A, clients: &mut Clients)
-    ensures sent { StandsBy (outside_of A.coming A.sent connections.old) clients.old.all
-        (outside_of A.coming A.sent connections.new) clients.new.all }
+    ensures stands { StandsBy (outside_of A.coming A.outgoing connections.old) clients.old.all
+        (outside_of A.coming A.outgoing connections.new) clients.new.all }
+    // If it was told to nobody else, nobody waits whose connection takes more.
+    ensures sent { AreSentBut (A.outgoing connections.old).full clients.old.stirred clients.old.all
+        → AreSentBut (A.outgoing connections.new).full [] clients.new.all }
     ensures ready { StaysReady clients.old.all clients.new.all }
-    ensures as_many { length clients.new.all ≡ length clients.old.all }
+    ensures endings { endings_of clients.new.all ≡ endings_of clients.old.all }
     ensures stirred { clients.new.stirred ≡ clients.old.stirred }
 {
     for index in 0..clients.stirred().len() {
@@ -49,13 +24,14 @@ pub(crate) fn deliver_new<A: Connections>(connections: &mut A, clients: &mut Cli
     }
 }
 
-/// Sends the clients whose connections take more again what they take of what is left.
+/// Sends each client whose connection takes more again as much of what is left as it takes.
 pub(crate) fn deliver_rest<A: Connections>(connections: &mut A, clients: &mut Clients)
-    ensures sent { StandsBy (outside_of A.coming A.sent connections.old) clients.old.all
-        (outside_of A.coming A.sent connections.new) clients.new.all }
+    ensures stands { StandsBy (outside_of A.coming A.outgoing connections.old) clients.old.all
+        (outside_of A.coming A.outgoing connections.new) clients.new.all }
+    ensures sent { AreSentBut (A.outgoing connections.old).full (A.writable_places connections.old) clients.old.all
+        → AreSentBut (A.outgoing connections.new).full [] clients.new.all }
     ensures ready { StaysReady clients.old.all clients.new.all }
-    ensures as_many { length clients.new.all ≡ length clients.old.all }
-    ensures stirred { clients.new.stirred ≡ clients.old.stirred }
+    ensures endings { endings_of clients.new.all ≡ endings_of clients.old.all }
 {
     for index in 0..connections.writable().len() {
         let place = connections.writable().get(index).copied();
@@ -65,11 +41,15 @@ pub(crate) fn deliver_rest<A: Connections>(connections: &mut A, clients: &mut Cl
 
 // Sends the client at a place what its connection takes, if there is such a client.
 fn deliver<A: Connections>(place: Option<usize>, connections: &mut A, clients: &mut Clients)
-    ensures sent { StandsBy (outside_of A.coming A.sent connections.old) clients.old.all
-        (outside_of A.coming A.sent connections.new) clients.new.all }
+    ensures stands { StandsBy (outside_of A.coming A.outgoing connections.old) clients.old.all
+        (outside_of A.coming A.outgoing connections.new) clients.new.all }
+    ensures sent { IfSome place (λ place. (places : List ℕ)
+        → AreSentBut (A.outgoing connections.old).full (place ∷ places) clients.old.all
+        → AreSentBut (A.outgoing connections.new).full places clients.new.all) }
     ensures ready { StaysReady clients.old.all clients.new.all }
-    ensures as_many { length clients.new.all ≡ length clients.old.all }
+    ensures endings { endings_of clients.new.all ≡ endings_of clients.old.all }
     ensures stirred { clients.new.stirred ≡ clients.old.stirred }
+    ensures writable { A.writable_places connections.new ≡ A.writable_places connections.old }
 {
     let Some(place) = place else {
         return;

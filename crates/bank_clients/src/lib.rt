@@ -1,5 +1,4 @@
-//! Clients who are served at once, over their connections: who comes, what arrives, what goes out,
-//! and who leaves.
+//! Clients who are served at once, over their connections: what arrives, what goes out, and who leaves.
 #![tactic(auto)]
 
 mod client_errors;
@@ -7,6 +6,7 @@ mod connections;
 mod delivery;
 mod laws;
 mod lingering;
+mod session_notes;
 mod sessions;
 mod slot;
 mod socket_places;
@@ -16,6 +16,7 @@ mod traffic;
 pub use client_errors::is_of_a_client;
 pub use connections::Connections;
 pub use laws::begins_served;
+pub use session_notes::SessionNotes;
 pub use sessions::{Over, Sessions};
 pub use sockets::{ClientSockets, Limits};
 pub use traffic::Traffic;

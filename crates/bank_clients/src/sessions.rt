@@ -1,16 +1,20 @@
 //! The sessions of clients who are served at once.
-ghost use Rattle.std.specs.Prelude.{◌≡◌, ◌<◌, ℕ, length, IfErr, IfOk, IfSome, OnOk, slice_get};
+ghost use Rattle.std.specs.Prelude.{◌≡◌, ◌∷◌, ℕ, List, [], length, IfErr, IfNone, IfOk, IfSome, OnOk, slice_set};
 ghost use Rattle.std.specs.List.{All};
-ghost use Rattle.bank_server.specs.Clients.{IsReady, fresh_client};
+ghost use Rattle.sb_calls.specs.declared.ask.Key.{Key as AnyKey};
+ghost use Rattle.sb_calls.specs.declared.call.Call.{Call as AnyCall};
+ghost use Rattle.sb_rows.specs.Rows.{Rows};
+ghost use Rattle.bank_server.specs.Clients.{End, fresh_client};
 ghost use Rattle.bank_server.specs.Primary.{opening_rows_of};
 ghost use Rattle.bank_server.specs.ServesOn.{ServesOn};
 ghost use Rattle.bank_server.specs.SessionFaults.{IsSettleFault, IsTurnFault};
 ghost use Rattle.bank_clients.specs.History.{GoesOn};
-ghost use Rattle.bank_clients.specs.Sessions.{IsOver, outside_of};
+ghost use Rattle.bank_clients.specs.Sessions.{AreListed, AreReady, AreSentBut, IsOverAt, outside_of};
+ghost use Rattle.bank_clients.specs.inner.Rounds.{AreToBeListed};
 
 use crate::connections::Connections;
-use crate::delivery::{admit_all, deliver_new, deliver_rest};
-use bank_server::{AskCounts, Clients, Primary, SessionFault};
+use crate::delivery::{deliver_new, deliver_rest};
+use bank_server::{Clients, Primary, SessionFault};
 use cown_workers::Crew;
 use sb_ask_log::Keeper;
 use sb_checkpoint::CheckpointStore;
@@ -25,8 +29,6 @@ pub struct Over {
     pub place: usize,
     /// How it ended: with [`SessionFault::Device`] also if its connection doesn't take all outcomes.
     pub ending: Result<(), SessionFault>,
-    /// How many asks its client had.
-    pub counts: AskCounts,
 }
 
 /// The sessions of clients who are served at once, over their connections.
@@ -61,7 +63,7 @@ impl<A: Connections> Sessions<A> {
         ensures fresh { IfOk result (λ sessions. All (λ client. client ≡ fresh_client) sessions.clients.all) }
         ensures places { IfOk result (λ sessions. length sessions.clients.all ≡ places) }
         ensures ready { IfOk result (λ sessions. (calls : ℕ)
-            → All (λ client. IsReady calls client) sessions.clients.all) }
+            → AreReady A.outgoing A.writable_places calls sessions) }
     {
         let mut clients = Clients::new(alloc)?;
         for _ in 0..places {
@@ -81,19 +83,21 @@ impl<A: Connections> Sessions<A> {
         &self.connections
     }
 
-    /// Waits until a client comes, something arrives, a connection takes more, or one is over.
+    /// Waits until something arrives, a connection takes more, or one fails.
     ///
     /// Fails if the device fails.
     pub fn wait(&mut self) -> io::Result<()>
-        ensures outside { outside_of A.coming A.sent self.new.connections
-            ≡ outside_of A.coming A.sent self.old.connections }
+        ensures outside { outside_of A.coming A.outgoing self.new.connections
+            ≡ outside_of A.coming A.outgoing self.old.connections }
         ensures unchanged { self.new ≡ record self.old { connections = self.new.connections } }
+        ensures ready { (calls : ℕ) → AreReady A.outgoing A.writable_places calls self.old
+            → AreReady A.outgoing A.writable_places calls self.new }
     {
         self.connections.wait()
     }
 
-    /// Serves once around: who came joins, a turn takes what arrived, and what connections take goes
-    /// out.
+    /// Serves once around: what connections take goes out, a turn takes what arrived, and what is told
+    /// then goes out too.
     ///
     /// Fails as [`Clients::turn`] does.
     pub fn serve<S: CheckpointStore, K: Keeper, C: Crew>(
@@ -101,22 +105,23 @@ impl<A: Connections> Sessions<A> {
         primary: &mut Primary<S, K>,
         crew: &mut C,
     ) -> Result<(), SessionFault>
-        requires ready { All (λ client. IsReady (length primary.old.log) client) self.old.clients.all }
-        ensures ready { OnOk result (All (λ client. IsReady (length primary.new.log) client) self.new.clients.all) }
+        requires ready { AreReady A.outgoing A.writable_places (length primary.old.log) self.old }
+        // Whoever has ended is listed, and whoever has outcomes left has a connection that takes no more.
+        ensures ready { OnOk result (AreReady A.outgoing A.writable_places (length primary.new.log) self.new
+            × AreSentBut (A.outgoing self.new.connections).full [] self.new.clients.all) }
         // Each client is served as if its session were alone, by the log of all.
         ensures served { OnOk result (GoesOn (opening_rows_of primary.old)
-            (outside_of A.coming A.sent self.old.connections) primary.old.log self.old.clients.all
-            (outside_of A.coming A.sent self.new.connections) primary.new.log self.new.clients.all) }
+            (outside_of A.coming A.outgoing self.old.connections) primary.old.log self.old.clients.all []
+            (outside_of A.coming A.outgoing self.new.connections) primary.new.log self.new.clients.all) }
         ensures kept_after_fault { IfErr result (λ fault. IsSettleFault fault
             → K.model.Keeps primary.new.keeper primary.new.log) }
         // What was kept stays kept, and a crew that keeps no job leaves none out, after a fault too.
         ensures serves { ServesOn K.model C.keeps result primary.old primary.new }
         ensures fault { IfErr result IsTurnFault }
     {
-        admit_all(&mut self.connections, &mut self.clients);
+        deliver_rest(&mut self.connections, &mut self.clients);
         self.clients.turn(&mut self.connections, primary, crew)?;
         deliver_new(&mut self.connections, &mut self.clients);
-        deliver_rest(&mut self.connections, &mut self.clients);
         if list_leaving(&self.clients, &mut self.leaving).is_err() {
             primary.keep()?;
             return Err(SessionFault::OutOfMemory);
@@ -124,74 +129,70 @@ impl<A: Connections> Sessions<A> {
         Ok(())
     }
 
-    /// A session that is over now: its client ended, and its connection took all outcomes or takes no
-    /// more. It isn't named again.
-    pub fn next_over(&mut self) -> Option<Over>
-        ensures over { IfSome result (λ over. IfSome (slice_get self.old.clients.all over.place)
-            (λ client. IsOver client over.ending)) }
-        ensures there { IfSome result (λ over. over.place < length self.old.clients.all) }
-        ensures counts { IfSome result (λ over. IfSome (slice_get self.old.clients.all over.place)
-            (λ client. over.counts ≡ client.counts)) }
-        ensures unchanged { self.new ≡ record self.old { leaving = self.new.leaving } }
+    /// A session that is over now: its client ended, and its connection took all outcomes, or failed, or
+    /// left too many unread. `None` if none is.
+    pub fn next_over(&self) -> Option<Over>
+        requires { AreListed self.now.leaving self.now.clients.all }
+        ensures over { IfSome result (λ over. IsOverAt self.now.clients.all over.place over.ending) }
+        ensures none { IfNone result ((place : ℕ) (end : End) → ¬ IsOverAt self.now.clients.all place end) }
     {
-        for index in 0..self.leaving.len() {
-            if let Some(over) = self.over_at(index) {
-                self.leaving.swap_remove(index);
-                return Some(over);
+        for place in &self.leaving {
+            if let Some(ending) = self.over_at(*place) {
+                return Some(Over {
+                    place: *place,
+                    ending,
+                });
             }
         }
         None
     }
 
-    // The session of a client who ended, if it is over.
-    fn over_at(&self, index: usize) -> Option<Over>
-        ensures over { IfSome result (λ over. IfSome (slice_get self.now.clients.all over.place)
-            (λ client. IsOver client over.ending)) }
-        ensures there { IfSome result (λ over. over.place < length self.now.clients.all) }
-        ensures counts { IfSome result (λ over. IfSome (slice_get self.now.clients.all over.place)
-            (λ client. over.counts ≡ client.counts)) }
+    // How the session at a place is over, if it is.
+    fn over_at(&self, place: usize) -> Option<Result<(), SessionFault>>
+        ensures over { IfSome result (λ ending. IsOverAt self.now.clients.all place ending) }
+        ensures none { IfNone result ((end : End) → ¬ IsOverAt self.now.clients.all place end) }
     {
-        let place = *self.leaving.get(index)?;
         if place >= self.clients.len() {
             return None;
         }
         let ending = self.clients.ending(place)?;
-        let counts = self.clients.ask_counts(place);
         if self.clients.outcomes(place).is_empty() {
-            return Some(Over {
-                place,
-                ending,
-                counts,
-            });
+            return Some(ending);
         }
         // Who leaves too much unread isn't waited for.
-        if ending == Err(SessionFault::Device) || self.connections.has_failed(place) {
-            return Some(Over {
-                place,
-                ending: Err(SessionFault::Device),
-                counts,
-            });
+        if ending == Err(SessionFault::Device) || self.clients.is_broken(place) {
+            return Some(Err(SessionFault::Device));
         }
         None
     }
 
-    /// Leaves the client of a session that is over. One that sent what it may not is notified that
-    /// nothing more comes.
+    /// Leaves the client of a session that is over, whose place is free then. One that sent what it may
+    /// not is notified that nothing more comes.
     pub fn leave(&mut self, over: Over)
-        ensures outside { outside_of A.coming A.sent self.new.connections
-            ≡ outside_of A.coming A.sent self.old.connections }
-        ensures unchanged { self.new ≡ record self.old { connections = self.new.connections } }
+        requires { IsOverAt self.old.clients.all over.place over.ending }
+        ensures left { (opening : Rows) (log : List (AnyKey × AnyCall)) → GoesOn opening
+            (outside_of A.coming A.outgoing self.old.connections) log self.old.clients.all (over.ending ∷ [])
+            (outside_of A.coming A.outgoing self.new.connections) log self.new.clients.all }
+        ensures vacated { self.new.clients.all ≡ slice_set self.old.clients.all over.place fresh_client }
+        ensures ready { (calls : ℕ) → AreReady A.outgoing A.writable_places calls self.old
+            → AreReady A.outgoing A.writable_places calls self.new }
     {
+        let counts = self.clients.ask_counts(over.place);
         let is_at_fault = matches!(
             over.ending,
             Err(SessionFault::Frame(_) | SessionFault::Unexpected | SessionFault::TooMany)
         );
-        self.connections.leave(over.place, is_at_fault, over.counts);
+        self.connections.leave(over.place, is_at_fault, counts);
+        self.clients.vacate(over.place);
+        self.leaving.retain(|place| *place != over.place);
     }
 }
 
 // Adds the places of those who ended in the last turn. There is room for all places.
-fn list_leaving(clients: &Clients, leaving: &mut Vec<usize>) -> Result<(), AllocError> {
+fn list_leaving(clients: &Clients, leaving: &mut Vec<usize>) -> Result<(), AllocError>
+    requires { AreToBeListed leaving.old.items clients.now.stirred clients.now.all }
+    ensures { OnOk result (AreListed leaving.new.items clients.now.all) }
+{
     for place in clients.stirred() {
         let has_ended = *place < clients.len() && clients.ending(*place).is_some();
         if has_ended && !leaving.contains(place) {

@@ -1,5 +1,5 @@
 //! The sockets of clients, each at its place.
-ghost use Rattle.std.specs.Prelude.{◌≤◌, length, IfSome};
+ghost use Rattle.std.specs.Prelude.{◌≡◌, ◌≤◌, length, IfSome};
 
 use crate::lingering::Lingering;
 use crate::slot::Slot;
@@ -86,7 +86,7 @@ impl SocketPlaces {
     /// Closes the socket at a place, which is free then. It leaves the lists, for who comes there next is
     /// another one.
     pub(crate) fn close_place(&mut self, place: usize) {
-        let Some(slot) = self.slot(place) else {
+        let Some(slot) = slot_at(&mut self.slots, place) else {
             return;
         };
         if slot.is_listed {
@@ -109,24 +109,10 @@ impl SocketPlaces {
         }
     }
 
-    /// The socket at a place.
-    pub(crate) fn slot(&mut self, place: usize) -> Option<&mut Slot> {
-        match self.slots.get_mut(place) {
-            Some(Some(slot)) => Some(slot),
-            _ => None,
-        }
-    }
-
-    /// Whether the connection at a place failed, or was silent for too long.
-    pub(crate) fn has_failed(&self, place: usize) -> bool {
-        match self.slots.get(place) {
-            Some(Some(slot)) => slot.has_failed,
-            _ => true,
-        }
-    }
-
     /// The places whose connections take more again.
-    pub(crate) fn writable(&self) -> &[usize] {
+    pub(crate) fn writable(&self) -> &[usize]
+        ensures { result.now ≡ self.now.writable.items }
+    {
         &self.writable
     }
 
@@ -147,7 +133,7 @@ impl SocketPlaces {
 
     /// Takes what the system says of the socket at a place.
     pub(crate) fn take_sign(&mut self, place: usize, sign: Sign) {
-        let Some(slot) = self.slot(place) else {
+        let Some(slot) = slot_at(&mut self.slots, place) else {
             return;
         };
         slot.is_closing = slot.is_closing || sign.is_closing;
@@ -160,8 +146,10 @@ impl SocketPlaces {
     }
 
     /// Has the socket at a place read next, or looked at if it is a guest's.
-    pub(crate) fn list(&mut self, place: usize) {
-        let Some(slot) = self.slot(place) else {
+    pub(crate) fn list(&mut self, place: usize)
+        ensures { self.new.writable ≡ self.old.writable }
+    {
+        let Some(slot) = slot_at(&mut self.slots, place) else {
             return;
         };
         if slot.is_listed {
@@ -175,26 +163,24 @@ impl SocketPlaces {
         }
     }
 
-    /// Looks at the guests, and answers how many were closed, and the place of one who is a client from now on:
-    /// it has sent something, or was silent for too long. Who closes its connection before is none.
-    pub(crate) fn next_guest(&mut self) -> (usize, Option<usize>) {
-        let mut closed = 0;
+    /// Looks at the guests, and answers how many were closed. One is a client from now on if it has sent
+    /// something, or was silent for too long. Who closes its connection before is none.
+    pub(crate) fn look_at_guests(&mut self) -> usize {
+        let mut closed: usize = 0;
         for _ in 0..self.guests.len() {
             let Some(place) = self.guests.pop() else {
                 break;
             };
-            match self.look_at(place) {
-                Some(true) => return (closed, Some(place)),
-                Some(false) => closed += 1,
-                None => {}
+            if self.look_at(place) == Some(false) {
+                closed = closed.saturating_add(1);
             }
         }
-        (closed, None)
+        closed
     }
 
     // Looks at the guest at a place: whether it is a client from now on, or is closed, or neither by now.
     fn look_at(&mut self, place: usize) -> Option<bool> {
-        let slot = self.slot(place)?;
+        let slot = slot_at(&mut self.slots, place)?;
         slot.is_listed = false;
         let is_client = slot.has_failed || slot.has_spoken()?;
         if is_client {
@@ -229,11 +215,11 @@ impl SocketPlaces {
         None
     }
 
-    // Reads the socket at a place, if there is something.
+    // Reads the socket at a place, if there is something. Of a client who was left it is skipped.
     fn read_place(&mut self, place: usize, chunk: &mut [u8], now: Instant) -> Option<Option<usize>>
         ensures { IfSome result (λ read. IfSome read (λ count. count ≤ length chunk.new)) }
     {
-        let slot = self.slot(place)?;
+        let slot = slot_at(&mut self.slots, place)?;
         slot.is_listed = false;
         if slot.has_failed {
             return Some(None);
@@ -245,18 +231,36 @@ impl SocketPlaces {
         };
         // What fills the chunk, or comes before the end, may not be all.
         let has_more = count > 0 && (count == chunk.len() || slot.is_closing);
+        let is_left = slot.lingering.is_some();
         if is_skipped(slot, read) {
             self.close_place(place);
         } else if has_more {
             self.list(place);
         }
-        read
+        // What one who was left still sends is nobody's: the place is the next client's.
+        if is_left { None } else { read }
+    }
+
+    /// Writes as many of these bytes as the connection at a place takes by now, and answers how many.
+    pub(crate) fn write_place(&mut self, place: usize, bytes: &[u8], now: Instant) -> usize
+        ensures count { result ≤ length bytes.now }
+        ensures writable { self.new.writable ≡ self.old.writable }
+    {
+        let Some(slot) = slot_at(&mut self.slots, place) else {
+            return 0;
+        };
+        let count = slot.write(bytes, now);
+        if slot.has_failed {
+            // Its client is to hear of it.
+            self.list(place);
+        }
+        count
     }
 
     /// Leaves the client at a place: its socket is closed, if it isn't at fault, or else once what it
     /// still sends was skipped.
     pub(crate) fn leave_place(&mut self, place: usize, is_at_fault: bool, now: Instant) {
-        let Some(slot) = self.slot(place) else {
+        let Some(slot) = slot_at(&mut self.slots, place) else {
             return;
         };
         if is_at_fault && !slot.has_failed && slot.hang_up() {
@@ -283,7 +287,7 @@ impl SocketPlaces {
     // Finds out whether a client has been silent for too long.
     fn find_out(&mut self, place: usize, now: Instant) {
         let patience = self.patience;
-        let Some(slot) = self.slot(place) else {
+        let Some(slot) = slot_at(&mut self.slots, place) else {
             return;
         };
         let Some(until) = deadline(slot, patience) else {
@@ -297,6 +301,14 @@ impl SocketPlaces {
             slot.has_failed = true;
             self.list(place);
         }
+    }
+}
+
+// The socket at a place.
+fn slot_at(slots: &mut Vec<Option<Slot>>, place: usize) -> Option<&mut Slot> {
+    match slots.get_mut(place) {
+        Some(Some(slot)) => Some(slot),
+        _ => None,
     }
 }
 

@@ -1,11 +1,11 @@
 //! The sockets of clients, which one thread polls.
-ghost use Rattle.std.specs.Prelude.{◌≤◌, length, None};
+ghost use Rattle.std.specs.Prelude.{◌≤◌, length, None, true};
 
 use crate::client_errors::is_of_a_client;
 use crate::connections::Connections;
+use crate::session_notes::SessionNotes;
 use crate::slot::Slot;
 use crate::socket_places::{Sign, SocketPlaces, earlier, has_come};
-use crate::traffic::Traffic;
 use bank_server::{Arrival, Arrivals, AskCounts};
 use mio::net::{TcpListener, TcpStream};
 use mio::{Events, Interest, Poll, Token};
@@ -39,8 +39,9 @@ pub struct Limits {
 /// serves, and none is waited for alone. Who closes its connection before it sends something isn't a client, as
 /// health checks do. It isn't known what arrives there, or what they take.
 #[derive(Drop)]
-pub struct ClientSockets<'a, H: Clock> {
+pub struct ClientSockets<'a, H: Clock, N> {
     rt: &'a H,
+    notes: N,
     poll: Poll,
     events: Events<Global>,
     listener: TcpListener,
@@ -55,8 +56,8 @@ pub struct ClientSockets<'a, H: Clock> {
     now: Instant,
 }
 
-impl<'a, H: Clock> ClientSockets<'a, H> {
-    /// The sockets of the clients who will come to this one.
+impl<'a, H: Clock, N: SessionNotes> ClientSockets<'a, H, N> {
+    /// The sockets of the clients who will come to this one, each of which is noted as it is left.
     ///
     /// Fails if the device fails, or memory is refused.
     pub fn new(
@@ -65,7 +66,11 @@ impl<'a, H: Clock> ClientSockets<'a, H> {
         alloc: Global,
         listener: TcpListener,
         limits: Limits,
-    ) -> io::Result<ClientSockets<'a, H>> {
+        notes: N,
+    ) -> io::Result<ClientSockets<'a, H, N>>
+    where
+        N: Drop,
+    {
         let poll = Poll::new(net)?;
         let mut listener = listener;
         let door = limits.at_once;
@@ -73,6 +78,7 @@ impl<'a, H: Clock> ClientSockets<'a, H> {
             .register(&mut listener, Token(door), Interest::READABLE)?;
         Ok(ClientSockets {
             rt,
+            notes,
             poll,
             events: Events::with_capacity(alloc, SIGNS)?,
             listener,
@@ -88,11 +94,6 @@ impl<'a, H: Clock> ClientSockets<'a, H> {
     /// The port where clients are accepted.
     pub fn port(&self) -> io::Result<u16> {
         Ok(self.listener.local_addr()?.port())
-    }
-
-    /// What went over the connection at a place by now.
-    pub fn traffic(&self, place: usize) -> Option<Traffic> {
-        self.places.traffic_at(place, self.now)
     }
 
     // For how long the system is asked at most.
@@ -163,23 +164,41 @@ impl<'a, H: Clock> ClientSockets<'a, H> {
         }
     }
 
+    // Gives places to those who came. One of them is a client once it has sent something.
+    fn admit(&mut self) {
+        for _ in 0..GUESTS {
+            if !self.is_open() {
+                break;
+            }
+            if let Some((stream, peer)) = self.accept() {
+                self.seat(stream, peer);
+            }
+        }
+        let closed = self.places.look_at_guests();
+        self.left = self.left.saturating_add(closed);
+    }
+
     // Whether clients are accepted now.
     fn is_open(&self) -> bool {
         self.has_guests && self.left > 0 && self.retry.is_none()
     }
 }
 
-impl<'a, H: Clock> Arrivals for ClientSockets<'a, H> {
+impl<'a, H: Clock, N: SessionNotes> Arrivals for ClientSockets<'a, H, N> {
     ghost coming = { λ sockets. None };
 
-    ghost sent = { λ sockets. None };
+    ghost here = { λ sockets. None };
+
+    ghost outgoing = { λ sockets. record { sent = None; full = λ place. true } };
 
     fn next(&mut self, chunk: &mut [u8]) -> Option<Arrival> {
         self.places.next(chunk, self.now)
     }
 }
 
-impl<'a, H: Clock> Connections for ClientSockets<'a, H> {
+impl<'a, H: Clock, N: SessionNotes> Connections for ClientSockets<'a, H, N> {
+    ghost writable_places = { λ sockets. sockets.places.writable.items };
+
     fn wait(&mut self) -> io::Result<()> {
         self.places.forget_writable();
         self.now = Instant::now(self.rt)?;
@@ -192,22 +211,8 @@ impl<'a, H: Clock> Connections for ClientSockets<'a, H> {
         }
         self.places.find_silent(self.now);
         self.places.begin();
+        self.admit();
         Ok(())
-    }
-
-    // Who came is a client once it has sent something.
-    fn admit(&mut self) -> Option<usize> {
-        for _ in 0..GUESTS {
-            if !self.is_open() {
-                break;
-            }
-            if let Some((stream, peer)) = self.accept() {
-                self.seat(stream, peer);
-            }
-        }
-        let (closed, client) = self.places.next_guest();
-        self.left = self.left.saturating_add(closed);
-        client
     }
 
     fn writable(&self) -> &[usize] {
@@ -215,23 +220,13 @@ impl<'a, H: Clock> Connections for ClientSockets<'a, H> {
     }
 
     fn send(&mut self, place: usize, bytes: &[u8]) -> usize {
-        let now = self.now;
-        let Some(slot) = self.places.slot(place) else {
-            return 0;
-        };
-        let count = slot.write(bytes, now);
-        if slot.has_failed {
-            // Its client is to hear of it.
-            self.places.list(place);
+        self.places.write_place(place, bytes, self.now)
+    }
+
+    fn leave(&mut self, place: usize, is_at_fault: bool, counts: AskCounts) {
+        if let Some(traffic) = self.places.traffic_at(place, self.now) {
+            self.notes.note_session(counts, traffic);
         }
-        count
-    }
-
-    fn has_failed(&self, place: usize) -> bool {
-        self.places.has_failed(place)
-    }
-
-    fn leave(&mut self, place: usize, is_at_fault: bool, _counts: AskCounts) {
         self.places.leave_place(place, is_at_fault, self.now);
     }
 }

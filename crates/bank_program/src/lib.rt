@@ -18,11 +18,11 @@ mod program_run;
 mod program_server;
 mod report;
 mod session_note;
+mod session_printer;
 mod standard_streams;
 mod store_folder;
 mod telling;
 mod told_listener;
-mod told_sockets;
 mod trouble;
 mod watch;
 

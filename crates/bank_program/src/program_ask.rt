@@ -6,7 +6,7 @@ ghost use Rattle.bank_service.specs.ServeFaults.{IsDeviceFault};
 use crate::answer_watch::AskWatch;
 use crate::device::Device;
 use crate::fault::ProgramFault;
-use crate::standard_streams::{input, output};
+use crate::standard_streams::{are_open, input, output};
 use crate::trouble::Trouble;
 use crate::watch::Watch;
 use ask_client::{AskPlan, SocketDialer, ask_all};
@@ -22,7 +22,10 @@ use std::time::Clock;
 /// it tells there how many of the outcomes were no replies, if some were. An error of a stream or a
 /// connection is noted.
 ///
-/// Fails as [`ask_all`] does, and with a failed device if the system gives no random number.
+/// A connection would take the place of a standard stream that is closed, so all of them must be open.
+///
+/// Fails as [`ask_all`] does, and with a failed device if one of them isn't, or the system gives no random
+/// number.
 pub fn ask_program<H: Net + Clock>(
     rt: &HostRuntime,
     net: &H,
@@ -31,6 +34,9 @@ pub fn ask_program<H: Net + Clock>(
 ) -> Result<(), ProgramFault>
     ensures fault { IfErr result IsAskProgramFault }
 {
+    if !are_open(rt, trouble) {
+        return Err(ProgramFault::Run(RunFault::Device));
+    }
     let client = match words.client {
         Some(client) => client,
         None => new_client(rt)?,

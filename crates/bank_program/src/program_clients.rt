@@ -5,8 +5,8 @@ ghost use Rattle.bank_service.specs.ServeFaults.{IsPortFault, IsServingFault};
 
 use crate::device::Device;
 use crate::listening::listen_for_many;
+use crate::session_printer::SessionPrinter;
 use crate::standard_streams::output;
-use crate::told_sockets::ToldSockets;
 use crate::trouble::Trouble;
 use bank_clients::{ClientSockets, Limits, Sessions};
 use bank_server::Primary;
@@ -66,7 +66,7 @@ fn connections_at<'r, H>(
     clients: usize,
     plan: &Plan,
     trouble: &Trouble<'_>,
-) -> Result<(u16, ToldSockets<'r, H>), ServeFault>
+) -> Result<(u16, ClientSockets<'r, H, SessionPrinter>), ServeFault>
 where
     H: Clock + Net,
     ensures fault { IfErr result (IsPortFault port) }
@@ -80,13 +80,12 @@ where
     };
     let address = SocketAddr::new(plan.host, port);
     let listener = listen_for_many(threads, address, trouble)?;
-    let made = ClientSockets::new(threads, threads, rt.alloc(), listener, limits);
-    let inner = trouble.noted(Device::Address(address), made)?;
-    let port = trouble.noted(Device::Address(address), inner.port())?;
-    let connections = ToldSockets {
-        inner,
+    let notes = SessionPrinter {
         rt: *rt,
         is_quiet: plan.is_quiet,
     };
+    let made = ClientSockets::new(threads, threads, rt.alloc(), listener, limits, notes);
+    let connections = trouble.noted(Device::Address(address), made)?;
+    let port = trouble.noted(Device::Address(address), connections.port())?;
     Ok((port, connections))
 }

@@ -1,7 +1,7 @@
 //! The program that serves.
-ghost use Rattle.std.specs.Prelude.{◌≡◌, ◌⊎◌, ◌≤◌, ◌<◌, None, false, true, is_some, IfErr, IfOk};
+ghost use Rattle.std.specs.Prelude.{◌≡◌, ◌≤◌, None, false, true, is_some, IfErr, IfOk};
 ghost use Rattle.bank_server.specs.Execution.{HasNoEntries};
-ghost use Rattle.bank_service.specs.ServeFaults.{IsBankFault, IsPortFault, IsProgramFault, IsServingFault};
+ghost use Rattle.bank_service.specs.ServeFaults.{IsBankFault, IsPortFault, IsProgramFault};
 ghost use Rattle.bank_program.specs.inner.StepFaults.{IsOpenFault, IsOpeningFault, IsStoreFault};
 
 use crate::device::Device;
@@ -16,10 +16,10 @@ use crate::trouble::Trouble;
 use crate::watch::Watch;
 use bank_server::{Primary, RunFault};
 use bank_service::{
-    ServeFault, Server, SocketListener, find_bank, open_on_file, serve, serve_bank, whole_opening,
+    ServeFault, SocketListener, find_bank, open_on_file, serve, whole_opening,
 };
 use program_words::Plan;
-use sb_ask_log::{AskLog, Keeper};
+use sb_ask_log::AskLog;
 use sb_calls::{REPLICAS, WORKERS};
 use sb_checkpoint::{CheckpointStore, FileStore, FileWithSpare, FolderFile};
 use sb_log::{LogFile, Reason, SystemFile};
@@ -101,7 +101,11 @@ where
     let mut lock = StoreLock::new();
     let opened = open_on_log(rt, folder, plan.saves, log, &mut lock, &reason, trouble);
     let served = match opened {
-        Ok(opened) => serve_opened(rt, threads, port, opened, plan, trouble),
+        Ok(opened) => {
+            // The words of a bank with a log give it a number.
+            let clients = plan.clients.unwrap_or(1);
+            serve_clients_at(rt, threads, port, opened, clients, plan, trouble)
+        }
         Err(fault) => Err(fault),
     };
     if let Err(ServeFault::Log(fault)) = served {
@@ -164,50 +168,12 @@ fn open_found<F: LogFile, S: CheckpointStore>(
     Ok(Box::new(alloc, primary)?)
 }
 
-// Serves a bank that was opened, at a port.
-fn serve_opened<H, S, K>(
-    rt: &HostRuntime,
-    threads: &H,
-    port: u16,
-    opened: Box<Primary<S, K>>,
-    plan: Plan,
-    trouble: &Trouble<'_>,
-) -> Result<(), ServeFault>
-where
-    H: Threads + Wait + Clock + Sync + Net,
-    S: CheckpointStore,
-    K: Keeper,
-    requires nodes { plan.nodes ≤ REPLICAS }
-    requires workers { plan.workers ≤ WORKERS }
-    requires no_entries { HasNoEntries opened.value.node.board }
-    ensures fault { IfErr result (λ fault. IsPortFault port fault
-        ⊎ IsServingFault plan.nodes (0 < plan.workers) plan.saves K.model.fails fault) }
-{
-    if let Some(clients) = plan.clients {
-        return serve_clients_at(rt, threads, port, opened, clients, plan, trouble);
-    }
-    let listener = clients_at(rt, threads, port, plan, true, trouble)?;
-    serve_bank(
-        threads,
-        Server {
-            alloc: rt.alloc(),
-            plan,
-            listener,
-            primary: Box::into_inner(opened),
-            writer: output(rt, trouble),
-        },
-    )?;
-    Ok(())
-}
-
-// The clients who come to a port of the plan's host, one after another. Of a bank with a log they are those
-// who send something.
+// The clients who come to a port of the plan's host, one after another.
 fn clients_at<'t, 'd, 'r, H>(
     rt: &HostRuntime,
     threads: &'r H,
     port: u16,
     plan: Plan,
-    logs: bool,
     trouble: &'t Trouble<'d>,
 ) -> Result<SystemClients<'t, 'd, 'r, H>, ServeFault>
 where
@@ -216,13 +182,8 @@ where
 {
     let address = SocketAddr::new(plan.host, port);
     let listener = listen(threads, address, trouble)?;
-    let inner = if logs {
-        SocketListener::of_speakers(threads, listener, plan.patience)
-    } else {
-        SocketListener::new(threads, listener)
-    };
     let inner = Watch {
-        inner,
+        inner: SocketListener::new(threads, listener),
         device: Device::Address(address),
         trouble,
     };
@@ -303,7 +264,7 @@ where
         let primary = boxed_primary(rt.alloc(), opening, store)?;
         return serve_clients_at(rt, threads, port, primary, clients, plan, trouble);
     }
-    let listener = clients_at(rt, threads, port, plan, false, trouble)?;
+    let listener = clients_at(rt, threads, port, plan, trouble)?;
     serve(
         threads,
         rt.alloc(),

@@ -1,5 +1,5 @@
 -- What is done for clients who are served at once.
-use Rattle.std.specs.Prelude.{◌≡◌, ◌≢◌, ◌⊎◌, ◌≤◌, ◌<◌, ◌+◌, ℕ, ◌==◌, false, if◌then◌else◌, Option, Some, None, Result, Ok, Err, List, [], ◌∷◌, ◌++◌, length, map, IfSome, OnOk, slice_get, take}
+use Rattle.std.specs.Prelude.{◌≡◌, ◌≢◌, ◌⊎◌, ◌↔◌, ◌≤◌, ◌<◌, ◌+◌, ℕ, ◌==◌, Bool, false, true, if◌then◌else◌, Option, Some, None, Result, Ok, Err, List, [], ◌∷◌, ◌++◌, length, map, min, IfSome, OnOk, slice_get, take}
 use Rattle.std.specs.List.{All, Contains, flat_map}
 use Rattle.sb_rows.specs.Rows.{Rows}
 use Rattle.sb_calls.specs.declared.ask.Key.{Key}
@@ -27,7 +27,7 @@ End = Result (Unit {0}) SessionFault
 
 -- a client: its bytes that aren't a whole frame yet; its asks whose outcomes it wasn't given, of
 -- which a flush follows the first ones, that are due; the outcomes that its connection hasn't
--- taken; how many asks it had; and how it ended
+-- taken; how many asks it had; how it ended; and whether its connection failed
 pub record ClientOf : Type 0 where
   pub stream : StreamState
   pub pending : List PendingAsk
@@ -35,6 +35,7 @@ pub record ClientOf : Type 0 where
   pub outcomes : List ℕ
   pub counts : AskCounts
   pub ending : Option End
+  pub broken : Bool
 
 -- the clients, and those of them that the last turn told something, or that ended in it
 pub record ClientsOf : Type 0 where
@@ -43,8 +44,15 @@ pub record ClientsOf : Type 0 where
 
 -- a client before its first byte
 abbrev pub fresh_client : ClientOf
-fresh_client =
-    record { stream = empty_stream; pending = []; due = 0; outcomes = []; counts = no_asks; ending = None }
+fresh_client = record {
+  stream = empty_stream;
+  pending = [];
+  due = 0;
+  outcomes = [];
+  counts = no_asks;
+  ending = None;
+  broken = false;
+}
 
 -- in a log of this many calls: its asks have their places there, at most so many wait for a flush,
 -- and until it ends its stream hasn't failed and few outcomes are unread
@@ -137,11 +145,13 @@ IsLeft (Some (Err CrewGone)) past client rest = ⊥
 IsLeft (Some (Err OutOfMemory)) past client rest = ⊥
 IsLeft (Some (Err (Log fault))) past client rest = ⊥
 
--- its frames were taken from what came, and the rest is what its end, if any, leaves
+-- its frames were taken from what came, and the rest is what its end, if any, leaves; and its
+-- connection failed if that came too
 pub record IsHeard (past : PastOf) (client : ClientOf) : Type 0 where
   pub rest : List ℕ
   pub bytes_are : bytes_of past.pieces ≡ flat_map spelling past.frames ++ rest
   pub left : IsLeft client.ending past client rest
+  pub failed : (client.broken ≡ true) ↔ Contains past.pieces None
 
 -- in the log of these asks of all clients: its frames are asks and flushes, and it was given
 -- exactly the outcomes of its own asks that a flush of its own follows, as in a session; its other
@@ -205,13 +215,20 @@ TakesFromFront None new arrivals = Unit {0}
 TakesFromFront (Some coming) None arrivals = ⊥
 TakesFromFront (Some coming) (Some left) arrivals = coming ≡ arrivals ++ left
 
--- a turn takes arrivals from the front
+-- this many more of those that have come by now were taken, if it is known how many have
+abbrev pub TakesOfThem : ℕ → Option ℕ → Option ℕ → Type 0
+TakesOfThem count None left = Unit {0}
+TakesOfThem count (Some here) None = ⊥
+TakesOfThem count (Some here) (Some left) = here ≡ count + left
+
+-- a turn takes arrivals from the front: all that have come by now, or as many as there are clients
 pub record ServesTurn (Served : List (Key × Call) → List (Key × Call) → PastOf → ClientOf → Type 0)
-    (coming left : Option (List (ℕ × Piece)))
+    (coming left : Option (List (ℕ × Piece))) (here : Option ℕ)
     (old_log : List (Key × Call)) (old : List ClientOf) (new_log : List (Key × Call)) (new : List ClientOf)
     : Type 0 where
   pub arrivals : List (ℕ × Piece)
   pub came : TakesFromFront coming left arrivals
+  pub all : IfSome here (λ count. length arrivals ≡ min count (length old))
   pub taken : TakesArrivals Served old_log old arrivals new_log new
 
 -- a client was given nothing, and didn't end
@@ -225,11 +242,17 @@ IsCalm (Some old) (Some new) = (new.outcomes ≡ old.outcomes) × (new.ending �
 abbrev pub AreCalmBut : List ℕ → List ClientOf → List ClientOf → Type 0
 AreCalmBut stirred old new = (i : ℕ) → IsCalm (slice_get old i) (slice_get new i) ⊎ Contains stirred i
 
--- what a turn leaves: what connections took, and as many clients; and if it ended well, the whole log is
+-- what goes out to clients: what their connections took, in order, if that is known, each with its
+-- place; and which of them took less than they were given the last time
+pub record OutgoingOf : Type 0 where
+  pub sent : Option (List (ℕ × List ℕ))
+  pub full : ℕ → Bool
+
+-- what a turn leaves: what goes out, and as many clients; and if it ended well, the whole log is
 -- kept unless nobody was stirred, and nobody else was given anything, or ended
-pub record TurnLeaves (result : Result (Unit {0}) SessionFault) (took took_after : Option (List (ℕ × List ℕ)))
+pub record TurnLeaves (result : Result (Unit {0}) SessionFault) (outgoing_before outgoing_after : OutgoingOf)
     (Kept : Type 0) (old : List ClientOf) (new : ClientsOf) : Type 0 where
-  pub sent : took_after ≡ took
+  pub outgoing : outgoing_after ≡ outgoing_before
   pub as_many : length new.all ≡ length old
   pub stirred : OnOk result (Kept ⊎ (new.stirred ≡ []))
   pub calm : OnOk result (AreCalmBut new.stirred old new.all)

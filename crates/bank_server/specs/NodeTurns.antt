@@ -1,5 +1,5 @@
 -- What node 0's thread does with its replica, turn by turn.
-use Rattle.std.specs.Prelude.{◌≡◌, ℕ, suc, Some, List, [], ◌∷◌, Option, slice_get}
+use Rattle.std.specs.Prelude.{◌≡◌, suc, Some, List, [], ◌∷◌, slice_get}
 use Rattle.cown_board.specs.Board.{length_of}
 use Rattle.cown_workers.specs.Draining.{CrewStep, Exchange}
 use Rattle.sb_calls.specs.declared.op.Op.{Op}

@@ -11,11 +11,16 @@ use Rattle.sb_replica.specs.Replica.{ReplicaOf, replica_at_opening, rest_of}
 use Rattle.sb_sequencer.specs.Numbering.{IsLog, calls_of}
 use Rattle.sb_ask_log.specs.Keeping.{KeeperGoesOn, KeeperModel}
 use Rattle.bank_server.specs.Execution.{IsWholeLog, IsOneByOne}
+use Rattle.bank_server.specs.NodeTurns.{TurnsLead}
 use Rattle.bank_server.specs.declared.node0.ask_counts.AskCounts.{AskCounts}
 
 -- the ops of a log's calls, by these names
 abbrev pub log_ops : List (List ℕ) → List (Key × Call) → List Op
 log_ops names log = map (op_of names) (calls_of log)
+
+-- the new log begins with the old one
+abbrev pub ExtendsLog : List (Key × Call) → List (Key × Call) → Type 0
+ExtendsLog old new = (more : List (Key × Call)) × (new ≡ old ++ more)
 
 -- the board has a beginning of these ops, nothing came before it, and it has no cut
 pub record HasPrefixOf (ops : List Op) (board : BoardOf Op) : Type 0 where
@@ -49,12 +54,15 @@ pub record IsPrimary {S K : Type 0} (primary : PrimaryOf S K) : Type 0 where
 abbrev pub HasWholeLog : {S K : Type 0} → PrimaryOf S K → Type 0
 HasWholeLog primary = IsWholeLog (log_ops primary.node.names primary.log) primary.node.board
 
--- node 0 keeps its identity, its names and its store, over the same opening, and the log's keeper
--- goes on
+-- node 0 keeps its identity, its names and its store, over the same opening; the log is the same or
+-- longer, and its keeper goes on; and node 0 was offered entries of that log and exchanged jobs with its
+-- crew, and nothing else
 pub record PreservesBank {S K : Type 0} (model : KeeperModel K) (old new : PrimaryOf S K) : Type 0 where
   pub rest : rest_of new.node ≡ rest_of old.node
   pub opening : new.node.board.opening ≡ old.node.board.opening
+  pub log : ExtendsLog old.log new.log
   pub keeper : KeeperGoesOn model old.keeper old.log new.keeper new.log
+  pub turns : TurnsLead (log_ops new.node.names new.log) old.node new.node
 
 -- a node that had nothing of this log executed it, over its names and its opening, as if the calls
 -- were run one by one

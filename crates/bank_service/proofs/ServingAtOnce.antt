@@ -1,5 +1,5 @@
 -- Serving many clients of a bank at once, step by step.
-use Rattle.std.proofs.Common.{◌≡◌, ℕ, ◌+◌, ◌<◌, Bool, Option, Some, None, List, [], ◌∷◌, ◌++◌, false, length, refl, sym, ap, subst, ◌∙◌, arith, length-append}
+use Rattle.std.proofs.Common.{◌≡◌, ℕ, ◌+◌, Bool, Option, Some, None, List, [], ◌∷◌, ◌++◌, false, length, refl, sym, ap, subst, ◌∙◌, arith, length-append}
 use Rattle.std.specs.Prelude.{Result, Ok, Err, IfSome, OnOk, slice_get}
 use Rattle.std.proofs.KnownBytes.{Appends-nil}
 use Rattle.std.proofs.lemmas.List.Elements.{All-append, All-cons, All-nil}
@@ -10,7 +10,6 @@ use Rattle.sb_calls.specs.declared.call.Call.{Call}
 use Rattle.sb_rows.specs.Balances.{Balances}
 use Rattle.sb_rows.specs.Rows.{Rows}
 use Rattle.sb_replica.specs.Replica.{RestOf}
-use Rattle.cown_board.proofs.LogLaws.{some_at}
 use Rattle.cown_board.specs.Board.{BoardOf}
 use Rattle.cown_board.specs.declared.state.State.{State}
 use Rattle.cown_board.specs.declared.state.State.TheVariants.{Out}
@@ -20,8 +19,8 @@ use Rattle.bank_server.specs.Execution.{HasNoEntries}
 use Rattle.bank_server.specs.Clients.{ClientOf, End, IsLeft, IsServed, PastOf}
 use Rattle.bank_server.specs.Primary.{PreservesBank, PrimaryOf, opening_rows_of}
 use Rattle.bank_server.specs.declared.session.session_fault.SessionFault.TheVariants.{Frame, Unexpected, CrewGone, Device, OutOfMemory, Log, TooMany}
-use Rattle.bank_clients.specs.History.{GoesOn, HistoryOf, OutsideOf, ServesEach, history_after}
-use Rattle.bank_clients.specs.Sessions.{IsOver, end_with_rest}
+use Rattle.bank_clients.specs.History.{GoesOn, HistoryOf, IsOver, IsOverWith, OutsideOf, ServesEach, history_after}
+use Rattle.bank_clients.specs.Sessions.{IsOverAt}
 use Rattle.bank_clients.proofs.Histories.{goes_on_then, stays_on}
 use Rattle.bank_service.specs.ServeOutput.{PrintsLines, ServerContinues, end_lines, log_lines, port_line, session_line, session_lines}
 use Rattle.bank_service.specs.ServedAtOnce.{ServesAtOnce}
@@ -48,29 +47,28 @@ continues_if_left (Err OutOfMemory) past client rest left = left
 continues_if_left (Err (Log fault)) past client rest left = left
 continues_if_left (Err TooMany) past client rest left = tt
 
-continues_with_rest : (own : End) (rest : List ℕ) → ServerContinues own → ServerContinues (end_with_rest own rest)
-continues_with_rest own [] on = on
-continues_with_rest own (byte ∷ rest) on = tt
+continues_with_rest : (own : End) (rest : List ℕ) (broken : Bool) (end : End) → ServerContinues own → IsOverWith own rest broken end
+    → ServerContinues end
+continues_with_rest own [] broken end on is = subst ServerContinues (sym is) on
+continues_with_rest own (byte ∷ rest) broken end on (is, why) = subst ServerContinues (sym is) tt
 
 continues_if_over : (opening : Rows) (asks log : CallLog) (past : PastOf) (client : ClientOf) (end : End) → IsServed opening asks log past client
     → IsOver client end → ServerContinues end
 continues_if_over opening asks log past client end served (own, ended, is) =
     let left = subst (λ (o : Option End). IsLeft o past client served.heard.rest) ended served.heard.left in
-    subst ServerContinues (sym is) (continues_with_rest own client.outcomes (continues_if_left own past client served.heard.rest left))
+    continues_with_rest own client.outcomes client.broken end (continues_if_left own past client served.heard.rest left) is
 
 -- a session that is over lets the server go on
 pub over_continues : (opening : Rows) (h : HistoryOf) (log : CallLog) (clients : List ClientOf) (place : ℕ) (end : End)
-    → ServesEach opening h log clients → place < length clients → IfSome (slice_get clients place) (λ client. IsOver client end) → ServerContinues end
-over_continues opening h log clients place end served within over =
-    let (client, is) = some_at clients place within in
+    → ServesEach opening h log clients → IsOverAt clients place end → ServerContinues end
+over_continues opening h log clients place end served (client, is, over) =
     continues_if_over opening h.asks log (h.past place) client end
-    (subst (λ (o : Option ClientOf). IfSome o (λ c. IsServed opening h.asks log (h.past place) c)) is (served.each place))
-    (subst (λ (o : Option ClientOf). IfSome o (λ c. IsOver c end)) is over)
+    (subst (λ (o : Option ClientOf). IfSome o (λ c. IsServed opening h.asks log (h.past place) c)) is (served.each place)) over
 
--- what both say of a success, a success gives
-pub if_both : {E P Q R : Type 0} (result : Result (Unit {0}) E) → (P → Q → R) → OnOk result P → OnOk result Q → OnOk result R
-if_both (Ok done) f p q = f p q
-if_both (Err fault) f p q = tt
+-- what all three say of a success, a success gives
+pub if_all : {E P Q R To : Type 0} (result : Result (Unit {0}) E) → (P → Q → R → To) → OnOk result P → OnOk result Q → OnOk result R → OnOk result To
+if_all (Ok done) f p q r = f p q r
+if_all (Err fault) f p q r = tt
 
 nothing_is_out : None ≡ Some Out → ⊥
 nothing_is_out e = cc
@@ -150,8 +148,8 @@ module _ {S K : Type 0} (model : StoreModel S) (keeper : KeeperModel K) where
       → ServesSome model keeper saves 0 o o clients clients bank bank a a
   unfolding session_lines
   some_at_first saves o clients bank a = record {
-    goes_on = stays_on (opening_rows_of bank) o bank.log clients;
     ends = [];
+    goes_on = stays_on (opening_rows_of bank) o bank.log clients;
     all = refl;
     go_on = All-nil ServerContinues;
     printed = Appends-nil a;
@@ -159,38 +157,39 @@ module _ {S K : Type 0} (model : StoreModel S) (keeper : KeeperModel K) where
   }
 
   -- who was served at first is served now
-  pub still_begun : (o p : OutsideOf) (xs ys : List ClientOf) (old new : PrimaryOf S K) → GoesOn (opening_rows_of old) o old.log xs p new.log ys
-      → IsSameBank old new → ((h : HistoryOf) × ServesEach (opening_rows_of old) h old.log xs)
-      → (h : HistoryOf) × ServesEach (opening_rows_of new) h new.log ys
-  still_begun o p xs ys old new on same (h, served) =
-      let (events, out, now) = on h served in
+  pub still_begun : (o p : OutsideOf) (xs ys : List ClientOf) (ends : List End) (old new : PrimaryOf S K)
+      → GoesOn (opening_rows_of old) o old.log xs ends p new.log ys → IsSameBank old new
+      → ((h : HistoryOf) × ServesEach (opening_rows_of old) h old.log xs) → (h : HistoryOf) × ServesEach (opening_rows_of new) h new.log ys
+  still_begun o p xs ys ends old new on same (h, served) =
+      let (events, may, out, now) = on h served in
       (history_after h events, subst (λ (rows : Rows). ServesEach rows (history_after h events) new.log ys) (sym (same_rows old new same)) now)
 
   -- rounds, while no session is over
   pub rounds_at_first : (saves : Bool) (o : OutsideOf) (clients : List ClientOf) (bank : PrimaryOf S K)
-      → GoesOn (opening_rows_of bank) o bank.log clients o bank.log clients × StaysBank model keeper saves bank bank
+      → GoesOn (opening_rows_of bank) o bank.log clients [] o bank.log clients × StaysBank model keeper saves bank bank
   rounds_at_first saves o clients bank = (stays_on (opening_rows_of bank) o bank.log clients, stays_at_first saves bank)
 
   pub rounds_then : (saves : Bool) (o p q : OutsideOf) (xs ys zs : List ClientOf) (old mid new : PrimaryOf S K)
-      → GoesOn (opening_rows_of old) o old.log xs p mid.log ys → StaysBank model keeper saves old mid
-      → GoesOn (opening_rows_of mid) p mid.log ys q new.log zs → PreservesBank keeper mid new
-      → GoesOn (opening_rows_of old) o old.log xs q new.log zs × StaysBank model keeper saves old new
+      → GoesOn (opening_rows_of old) o old.log xs [] p mid.log ys → StaysBank model keeper saves old mid
+      → GoesOn (opening_rows_of mid) p mid.log ys [] q new.log zs → PreservesBank keeper mid new
+      → GoesOn (opening_rows_of old) o old.log xs [] q new.log zs × StaysBank model keeper saves old new
   rounds_then saves o p q xs ys zs old mid new on stays round kept = (
-    goes_on_then (opening_rows_of old) o p q old.log mid.log new.log xs ys zs on
-        (subst (λ (rows : Rows). GoesOn rows p mid.log ys q new.log zs) (same_rows old mid stays.bank) round),
+    goes_on_then (opening_rows_of old) o p q old.log mid.log new.log xs ys zs [] [] on
+        (subst (λ (rows : Rows). GoesOn rows p mid.log ys [] q new.log zs) (same_rows old mid stays.bank) round),
     stays_then saves old mid new stays (stays_in_round saves mid new kept),
   )
 
-  -- behind these rounds a session is over
+  -- behind these rounds a session is over, and its client left
   pub over_behind : (saves : Bool) (number : ℕ) (o p q : OutsideOf) (xs ys zs : List ClientOf) (old mid new : PrimaryOf S K) (a b c : Option (List ℕ))
-      (end : End) → GoesOn (opening_rows_of old) o old.log xs p mid.log ys → StaysBank model keeper saves old mid → b ≡ a → ServerContinues end
-      → PrintsLines (session_line number end ∷ []) b c → IsBankAfter model keeper saves 1 mid new → new.log ≡ mid.log → zs ≡ ys → q ≡ p
+      (end : End) → GoesOn (opening_rows_of old) o old.log xs [] p mid.log ys → StaysBank model keeper saves old mid → b ≡ a → ServerContinues end
+      → PrintsLines (session_line number end ∷ []) b c → IsBankAfter model keeper saves 1 mid new
+      → GoesOn (opening_rows_of mid) p mid.log ys (end ∷ []) q mid.log zs → new.log ≡ mid.log
       → ServesOver model keeper saves number o q xs zs old new a c
-  over_behind saves number o p q xs ys zs old mid new a b c end on stays same continues printed after log clients outside = record {
-    goes_on = subst (λ (l : CallLog). GoesOn (opening_rows_of old) o old.log xs q l zs) (sym log)
-        (subst (λ (l : List ClientOf). GoesOn (opening_rows_of old) o old.log xs q mid.log l) (sym clients)
-        (subst (λ (w : OutsideOf). GoesOn (opening_rows_of old) o old.log xs w mid.log ys) (sym outside) on));
+  over_behind saves number o p q xs ys zs old mid new a b c end on stays same continues printed after left log = record {
     end = end;
+    goes_on = subst (λ (l : CallLog). GoesOn (opening_rows_of old) o old.log xs (end ∷ []) q l zs) (sym log)
+        (goes_on_then (opening_rows_of old) o p q old.log mid.log mid.log xs ys zs [] (end ∷ []) on
+        (subst (λ (rows : Rows). GoesOn rows p mid.log ys (end ∷ []) q mid.log zs) (same_rows old mid stays.bank) left));
     continues = continues;
     printed = subst (λ (l : Option (List ℕ)). PrintsLines (session_line number end ∷ []) l c) same printed;
     stays = stays_then saves old mid new stays (stays_in_session saves mid new after);
@@ -203,9 +202,9 @@ module _ {S K : Type 0} (model : StoreModel S) (keeper : KeeperModel K) where
   some_then_over saves count o p q xs ys zs old mid new a b c so_far next =
       let number : 1 + length so_far.ends ≡ count + 1 = omega (arith, so_far.all) in
       record {
-        goes_on = goes_on_then (opening_rows_of old) o p q old.log mid.log new.log xs ys zs so_far.goes_on
-            (subst (λ (rows : Rows). GoesOn rows p mid.log ys q new.log zs) (same_rows old mid so_far.stays.bank) next.goes_on);
         ends = so_far.ends ++ next.end ∷ [];
+        goes_on = goes_on_then (opening_rows_of old) o p q old.log mid.log new.log xs ys zs so_far.ends (next.end ∷ []) so_far.goes_on
+            (subst (λ (rows : Rows). GoesOn rows p mid.log ys (next.end ∷ []) q new.log zs) (same_rows old mid so_far.stays.bank) next.goes_on);
         all = omega (arith, length-append so_far.ends (next.end ∷ []), so_far.all);
         go_on = All-append ServerContinues so_far.ends (next.end ∷ []) so_far.go_on
             (All-cons ServerContinues next.end [] next.continues (All-nil ServerContinues));
@@ -233,10 +232,10 @@ module _ {S K : Type 0} (model : StoreModel S) (keeper : KeeperModel K) where
       let sessions = session_lines 1 some.ends in
       let lines = log_lines (keeper.opening first.keeper) last.log in
       record {
-        goes_on = subst (λ (l : CallLog). GoesOn (opening_rows_of first) o first.log xs p l ys) (sym log)
-            (subst (λ (l : CallLog). GoesOn (opening_rows_of first) o l xs p served.log ys) same_log
-            (subst (λ (r : Rows). GoesOn r o opened.log xs p served.log ys) (same_rows first opened early.bank) some.goes_on));
         ends = some.ends;
+        goes_on = subst (λ (l : CallLog). GoesOn (opening_rows_of first) o first.log xs some.ends p l ys) (sym log)
+            (subst (λ (l : CallLog). GoesOn (opening_rows_of first) o l xs some.ends p served.log ys) same_log
+            (subst (λ (r : Rows). GoesOn r o opened.log xs some.ends p served.log ys) (same_rows first opened early.bank) some.goes_on));
         all = some.all;
         go_on = some.go_on;
         printed =

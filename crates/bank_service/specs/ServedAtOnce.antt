@@ -12,13 +12,13 @@ use Rattle.program_words.specs.declared.plan.Plan.{Plan}
 
 -- a bank serves clients at once at a port, by this plan: each of them is served as if its session were
 -- alone, by the log of all. The bank prints the log's line, if it has one, the port, how each session
--- ended, as many as the plan has, the log's line again, and the rows after the log, executed one
--- by one; and what is left of it is as `IsBankAfter` says
+-- ended whose client left, in this order, as many as the plan has, the log's line again, and the rows
+-- after the log, executed one by one; and what is left of it is as `IsBankAfter` says
 pub record ServesAtOnce {S K : Type 0} (model : StoreModel S) (keeper : KeeperModel K) (plan : Plan) (port : ℕ)
     (outside outside_after : OutsideOf) (clients clients_after : List ClientOf) (before after : PrimaryOf S K)
     (old new : Option (List ℕ)) : Type 0 where
-  pub goes_on : GoesOn (opening_rows_of before) outside before.log clients outside_after after.log clients_after
   pub ends : List End
+  pub goes_on : GoesOn (opening_rows_of before) outside before.log clients ends outside_after after.log clients_after
   pub all : length ends ≡ plan.sessions
   pub go_on : All ServerContinues ends
   pub printed : PrintsLines (log_lines (keeper.opening before.keeper) before.log

@@ -4,7 +4,6 @@
 
 mod client;
 mod client_stream;
-mod first_look;
 mod followers;
 mod found_bank;
 mod leaving;

@@ -4,7 +4,6 @@ ghost use Rattle.bank_service.specs.ServeOutput.{IsPortOf};
 ghost use Rattle.bank_service.specs.Sessions.{AcceptsNext, ListenerClients, LeavesClient};
 
 use crate::client_stream::ClientStream;
-use crate::first_look::FirstLook;
 use crate::socket_writer::SocketWriter;
 use bank_clients::is_of_a_client;
 use bank_server::AskCounts;
@@ -54,8 +53,6 @@ pub trait ClientListener {
 pub struct SocketListener<'a, R: Wait, L: OpenListener> {
     rt: &'a R,
     listener: L,
-    // How who comes is looked at before it counts as a client, if it is.
-    look: Option<FirstLook>,
 }
 
 impl<'a, R: Wait, L: OpenListener> SocketListener<'a, R, L> {
@@ -63,23 +60,7 @@ impl<'a, R: Wait, L: OpenListener> SocketListener<'a, R, L> {
     pub fn new(rt: &'a R, listener: L) -> SocketListener<'a, R, L>
         ensures { result.listener ≡ listener }
     {
-        SocketListener {
-            rt,
-            listener,
-            look: None,
-        }
-    }
-
-    /// The clients who come to this socket and send something, or are silent for longer than this patience,
-    /// in seconds. Who closes its connection before that isn't a client: so do health checks.
-    pub fn of_speakers(rt: &'a R, listener: L, patience: Option<usize>) -> SocketListener<'a, R, L>
-        ensures { result.listener ≡ listener }
-    {
-        SocketListener {
-            rt,
-            listener,
-            look: Some(FirstLook { patience }),
-        }
+        SocketListener { rt, listener }
     }
 }
 
@@ -95,15 +76,11 @@ where
 
     ghost listens_at = { λ listener. None };
 
-    // It skips a client that is gone before it is accepted, or before it sends something if that counts.
+    // It skips a client that is gone before it is accepted.
     fn accept_client(&mut self) -> io::Result<ClientStream<L::Stream, SocketWriter<L::Stream>>> {
         for _ in self.rt.forever() {
             match self.listener.accept() {
-                Ok((stream, _)) => {
-                    if is_client(&stream, self.look) {
-                        return Ok(with_second_handle(stream));
-                    }
-                }
+                Ok((stream, _)) => return Ok(with_second_handle(stream)),
                 Err(error) => {
                     if !is_of_a_client(error.kind()) {
                         return Err(error);
@@ -128,14 +105,6 @@ where
 
     fn port(&self) -> io::Result<u16> {
         Ok(self.listener.local_addr()?.port())
-    }
-}
-
-// Whether who came counts as a client.
-fn is_client<T: OpenStream>(stream: &T, look: Option<FirstLook>) -> bool {
-    match look {
-        Some(look) => look.finds_client(stream),
-        None => true,
     }
 }
 

@@ -1,16 +1,14 @@
 //! The server of many clients at once.
 ghost use Rattle.std.specs.Prelude.{◌≡◌, ◌⊎◌, ◌∷◌, [], Err, false, true, length, IfErr, IfOk, OnOk};
-ghost use Rattle.std.specs.List.{All};
 ghost use Rattle.cown_workers.specs.Draining.{HasNoneOut};
-ghost use Rattle.bank_server.specs.Clients.{IsReady};
 ghost use Rattle.bank_server.specs.Primary.{PreservesBank, opening_rows_of};
 ghost use Rattle.bank_server.specs.SessionFaults.{IsTurnFault};
 ghost use Rattle.bank_clients.specs.History.{GoesOn, HistoryOf, ServesEach};
-ghost use Rattle.bank_clients.specs.Sessions.{outside_of};
+ghost use Rattle.bank_clients.specs.Sessions.{AreReady, IsOverAt, outside_of};
 ghost use Rattle.bank_service.specs.ServeFaults.{IsFinishFault, IsServingFault};
 ghost use Rattle.bank_service.specs.ServedAtOnce.{ServesAtOnce};
 ghost use Rattle.bank_service.specs.ServedBank.{IsBankAfter};
-ghost use Rattle.bank_service.specs.ServeOutput.{PrintsLines, ServerContinues, session_line};
+ghost use Rattle.bank_service.specs.ServeOutput.{PrintsLines, session_line};
 ghost use Rattle.bank_service.specs.inner.AtOnceSteps.{ServesOver, ServesSome};
 ghost use Rattle.bank_service.specs.inner.StepFaults.{IsEnding, IsPrintFault};
 
@@ -57,13 +55,14 @@ where
     type Answer = Result<ManyServer<A, S, W, K>, ServeFault>;
 
     ghost ready = { λ server. HasNoneOut server.primary.node.board
-        × All (λ client. IsReady (length server.primary.log) client) server.sessions.clients.all
+        × AreReady A.outgoing A.writable_places (length server.primary.log) server.sessions
         × ((h : HistoryOf)
         × ServesEach (opening_rows_of server.primary) h server.primary.log server.sessions.clients.all) };
 
     ghost does = { λ server nodes workers keeps answer. IfOk answer (λ bank. ServesAtOnce S.model K.model
         server.plan server.port
-        (outside_of A.coming A.sent server.sessions.connections) (outside_of A.coming A.sent bank.sessions.connections)
+        (outside_of A.coming A.outgoing server.sessions.connections)
+        (outside_of A.coming A.outgoing bank.sessions.connections)
         server.sessions.clients.all bank.sessions.clients.all server.primary bank.primary
         (W.contents server.writer) (W.contents bank.writer))
         × IfErr answer (IsServingFault nodes (keeps ≡ true) server.plan.saves K.model.fails) };
@@ -103,12 +102,12 @@ where
         R: Threads + Wait + Clock,
         C: Crew,
         requires none_out { HasNoneOut self.old.primary.node.board }
-        requires ready { All (λ client. IsReady (length self.old.primary.log) client) self.old.sessions.clients.all }
+        requires ready { AreReady A.outgoing A.writable_places (length self.old.primary.log) self.old.sessions }
         requires begun { (h : HistoryOf)
             × ServesEach (opening_rows_of self.old.primary) h self.old.primary.log self.old.sessions.clients.all }
         ensures served { OnOk result (ServesAtOnce S.model K.model self.old.plan self.old.port
-            (outside_of A.coming A.sent self.old.sessions.connections)
-            (outside_of A.coming A.sent self.new.sessions.connections)
+            (outside_of A.coming A.outgoing self.old.sessions.connections)
+            (outside_of A.coming A.outgoing self.new.sessions.connections)
             self.old.sessions.clients.all self.new.sessions.clients.all self.old.primary self.new.primary
             (W.contents self.old.writer) (W.contents self.new.writer)) }
         ensures fault { IfErr result (IsServingFault followers.old.nodes (C.keeps ≡ true) self.old.plan.saves
@@ -137,12 +136,12 @@ where
         R: Wait,
         C: Crew,
         requires none_out { C.keeps ≡ false → HasNoneOut self.old.primary.node.board }
-        requires ready { All (λ client. IsReady (length self.old.primary.log) client) self.old.sessions.clients.all }
+        requires ready { AreReady A.outgoing A.writable_places (length self.old.primary.log) self.old.sessions }
         requires begun { (h : HistoryOf)
             × ServesEach (opening_rows_of self.old.primary) h self.old.primary.log self.old.sessions.clients.all }
         ensures served { OnOk result (ServesSome S.model K.model self.old.plan.saves self.old.plan.sessions
-            (outside_of A.coming A.sent self.old.sessions.connections)
-            (outside_of A.coming A.sent self.new.sessions.connections)
+            (outside_of A.coming A.outgoing self.old.sessions.connections)
+            (outside_of A.coming A.outgoing self.new.sessions.connections)
             self.old.sessions.clients.all self.new.sessions.clients.all self.old.primary self.new.primary
             (W.contents self.old.writer) (W.contents self.new.writer)) }
         ensures none_out { OnOk result (C.keeps ≡ false → HasNoneOut self.new.primary.node.board) }
@@ -168,16 +167,16 @@ where
     where
         R: Wait,
         C: Crew,
-        requires ready { All (λ client. IsReady (length self.old.primary.log) client) self.old.sessions.clients.all }
+        requires ready { AreReady A.outgoing A.writable_places (length self.old.primary.log) self.old.sessions }
         requires begun { (h : HistoryOf)
             × ServesEach (opening_rows_of self.old.primary) h self.old.primary.log self.old.sessions.clients.all }
         ensures served { OnOk result (ServesOver S.model K.model self.old.plan.saves number
-            (outside_of A.coming A.sent self.old.sessions.connections)
-            (outside_of A.coming A.sent self.new.sessions.connections)
+            (outside_of A.coming A.outgoing self.old.sessions.connections)
+            (outside_of A.coming A.outgoing self.new.sessions.connections)
             self.old.sessions.clients.all self.new.sessions.clients.all self.old.primary self.new.primary
             (W.contents self.old.writer) (W.contents self.new.writer)) }
         ensures ready { OnOk result
-            (All (λ client. IsReady (length self.new.primary.log) client) self.new.sessions.clients.all) }
+            (AreReady A.outgoing A.writable_places (length self.new.primary.log) self.new.sessions) }
         ensures none_out { OnOk result (HasNoneOut self.new.primary.node.board) }
         ensures nodes { followers.new.nodes ≡ followers.old.nodes }
         ensures plan { self.new.plan ≡ self.old.plan }
@@ -203,12 +202,12 @@ where
         followers: &mut Followers<'_, R>,
         crew: &mut C,
     ) -> Result<(), ServeFault>
-        requires ready { All (λ client. IsReady (length self.old.primary.log) client) self.old.sessions.clients.all }
+        requires ready { AreReady A.outgoing A.writable_places (length self.old.primary.log) self.old.sessions }
         ensures ready { OnOk result
-            (All (λ client. IsReady (length self.new.primary.log) client) self.new.sessions.clients.all) }
+            (AreReady A.outgoing A.writable_places (length self.new.primary.log) self.new.sessions) }
         ensures goes_on { OnOk result (GoesOn (opening_rows_of self.old.primary)
-            (outside_of A.coming A.sent self.old.sessions.connections) self.old.primary.log
-            self.old.sessions.clients.all (outside_of A.coming A.sent self.new.sessions.connections)
+            (outside_of A.coming A.outgoing self.old.sessions.connections) self.old.primary.log
+            self.old.sessions.clients.all [] (outside_of A.coming A.outgoing self.new.sessions.connections)
             self.new.primary.log self.new.sessions.clients.all) }
         ensures bank { PreservesBank K.model self.old.primary self.new.primary }
         ensures none_out { C.keeps ≡ false → HasNoneOut self.old.primary.node.board
@@ -251,15 +250,21 @@ where
     where
         R: Wait,
         C: Crew,
-        requires goes_on { ServerContinues over.ending }
+        requires over { IsOverAt self.old.sessions.clients.all over.place over.ending }
+        requires ready { AreReady A.outgoing A.writable_places (length self.old.primary.log) self.old.sessions }
         ensures printed { OnOk result (PrintsLines (session_line number over.ending ∷ [])
             (W.contents self.old.writer) (W.contents self.new.writer)) }
         ensures bank_after { OnOk result (IsBankAfter S.model K.model self.old.plan.saves 1
             self.old.primary self.new.primary) }
         ensures log { self.new.primary.log ≡ self.old.primary.log }
-        ensures clients { self.new.sessions.clients ≡ self.old.sessions.clients }
-        ensures outside { outside_of A.coming A.sent self.new.sessions.connections
-            ≡ outside_of A.coming A.sent self.old.sessions.connections }
+        // Its client has left, and no other one.
+        ensures left { OnOk result (GoesOn (opening_rows_of self.old.primary)
+            (outside_of A.coming A.outgoing self.old.sessions.connections) self.old.primary.log
+            self.old.sessions.clients.all (over.ending ∷ [])
+            (outside_of A.coming A.outgoing self.new.sessions.connections)
+            self.old.primary.log self.new.sessions.clients.all) }
+        ensures ready { OnOk result
+            (AreReady A.outgoing A.writable_places (length self.new.primary.log) self.new.sessions) }
         ensures nodes { followers.new.nodes ≡ followers.old.nodes }
         ensures plan { self.new.plan ≡ self.old.plan }
         ensures fault { IfErr result (IsFinishFault (C.keeps ≡ false → ¬ HasNoneOut self.old.primary.node.board)

@@ -49,7 +49,8 @@ where
     requires opened { HasNoEntries server.primary.node.board }
     requires fresh { All (λ client. client ≡ fresh_client) server.sessions.clients.all }
     ensures served { IfOk result (λ bank. ServesAtOnce S.model K.model server.plan server.port
-        (outside_of A.coming A.sent server.sessions.connections) (outside_of A.coming A.sent bank.sessions.connections)
+        (outside_of A.coming A.outgoing server.sessions.connections)
+        (outside_of A.coming A.outgoing bank.sessions.connections)
         server.sessions.clients.all bank.sessions.clients.all server.primary bank.primary
         (W.contents server.writer) (W.contents bank.writer)) }
     ensures fault { IfErr result (IsServingFault server.plan.nodes (0 < server.plan.workers) server.plan.saves
@@ -82,7 +83,8 @@ where
     requires opened { HasNoEntries server.primary.node.board }
     requires fresh { All (λ client. client ≡ fresh_client) server.sessions.clients.all }
     ensures served { IfOk result (λ bank. ServesAtOnce S.model K.model server.plan server.port
-        (outside_of A.coming A.sent server.sessions.connections) (outside_of A.coming A.sent bank.sessions.connections)
+        (outside_of A.coming A.outgoing server.sessions.connections)
+        (outside_of A.coming A.outgoing bank.sessions.connections)
         server.sessions.clients.all bank.sessions.clients.all server.primary bank.primary
         (W.contents server.writer) (W.contents bank.writer)) }
     ensures fault { IfErr result (IsServingFault followers.nodes (0 < server.plan.workers) server.plan.saves

@@ -1,5 +1,5 @@
 //! Servers that compare node 0 with its followers while they go on.
-ghost use Rattle.std.specs.Prelude.{◌≡◌, ◌≤◌, ◌<◌, ◌+◌, length, None};
+ghost use Rattle.std.specs.Prelude.{◌≡◌, ◌≤◌, ◌<◌, ◌+◌, [], length, None, true};
 ghost use Rattle.sb_calls.specs.declared.nodes.TheConstants.{REPLICAS};
 
 use crate::clients::{TestListener, Transcript};
@@ -147,7 +147,9 @@ struct Wire<'a> {
 impl Arrivals for Wire<'_> {
     ghost coming = { λ wire. None };
 
-    ghost sent = { λ wire. None };
+    ghost here = { λ wire. None };
+
+    ghost outgoing = { λ wire. record { sent = None; full = λ place. true } };
 
     fn next(&mut self, chunk: &mut [u8]) -> Option<Arrival> {
         if self.is_taken {
@@ -166,14 +168,12 @@ impl Arrivals for Wire<'_> {
 }
 
 impl Connections for Wire<'_> {
+    ghost writable_places = { λ wire. [] };
+
     fn wait(&mut self) -> io::Result<()> {
         self.is_taken = false;
         self.rounds.set(self.rounds.get().wrapping_add(1));
         Ok(())
-    }
-
-    fn admit(&mut self) -> Option<usize> {
-        None
     }
 
     fn writable(&self) -> &[usize] {
@@ -182,10 +182,6 @@ impl Connections for Wire<'_> {
 
     fn send(&mut self, _place: usize, bytes: &[u8]) -> usize {
         bytes.len()
-    }
-
-    fn has_failed(&self, _place: usize) -> bool {
-        false
     }
 
     fn leave(&mut self, _place: usize, _is_at_fault: bool, _counts: AskCounts) {}

@@ -3,7 +3,7 @@
 use crate::clients::{Client, Manner, TestListener, Transcript};
 use crate::served::HERE;
 use bank_service::{ClientListener, SocketListener, serve};
-use program_words::{Plan, here};
+use program_words::Plan;
 use sb_checkpoint::MemoryStore;
 use sb_rows::read_opening;
 use std::alloc::Global;
@@ -75,73 +75,6 @@ fn clients_that_are_gone_are_passed_by(rt: HostRuntime) {
         .map(|_| ())
         .map_err(|error| error.kind());
     assert!(&rt; refused == Err(ErrorKind::OutOfMemory));
-}
-
-/// A listener to which someone comes who ends, one who is reset, one who is silent, and one who speaks.
-#[derive(Drop)]
-struct Door {
-    calls: Cell<u32>,
-}
-
-/// The server's end of the stream of one of them.
-#[derive(Drop)]
-struct Guest {
-    number: u32,
-}
-
-impl Read for Guest {
-    fn read(&mut self, _buf: &mut [u8]) -> io::Result<usize> {
-        Ok(0)
-    }
-}
-
-impl Write for Guest {
-    fn write(&mut self, _buf: &[u8]) -> io::Result<usize> {
-        Ok(0)
-    }
-
-    fn flush(&mut self) -> io::Result<()> {
-        Ok(())
-    }
-}
-
-impl OpenStream for Guest {
-    fn set_read_timeout(&self, _dur: Option<Duration>) -> io::Result<()> {
-        Ok(())
-    }
-
-    fn peek(&self, buf: &mut [u8]) -> io::Result<usize> {
-        match self.number {
-            0 => Ok(0),
-            1 => Err(io::Error::from(ErrorKind::ConnectionReset)),
-            2 => Err(io::Error::from(ErrorKind::WouldBlock)),
-            _ => Ok(buf.len()),
-        }
-    }
-}
-
-impl OpenListener for Door {
-    type Stream = Guest;
-
-    fn accept(&self) -> io::Result<(Guest, SocketAddr)> {
-        let number = self.calls.get();
-        self.calls.set(number.saturating_add(1));
-        Ok((Guest { number }, here(4000)))
-    }
-}
-
-#[test]
-fn who_says_nothing_is_passed_by(rt: HostRuntime) {
-    let calls = Cell::new(0);
-    let mut listener = SocketListener::of_speakers(&rt, Door { calls }, Some(1));
-    let silent = listener.accept_client().expect(&rt, "a client");
-    assert!(&rt; silent.reader.number == 2);
-    let speaks = listener.accept_client().expect(&rt, "a client");
-    assert!(&rt; speaks.reader.number == 3);
-    let calls = Cell::new(0);
-    let mut listener = SocketListener::new(&rt, Door { calls });
-    let ends = listener.accept_client().expect(&rt, "a client");
-    assert!(&rt; ends.reader.number == 0);
 }
 
 // Serves a bank of no customers to this client, who waits this long, and answers how the server

@@ -49,6 +49,10 @@ module _ {A : Type 0} where
 abbrev pub may_be_endless : Bool → Option ℕ → Bool
 may_be_endless logs clients = logs || is_some clients
 
+-- a number of a bank that isn't told it: this one if it keeps a log, else none
+abbrev pub usual_with_log : Bool → ℕ → Option ℕ
+usual_with_log logs number = if logs then Some number else None
+
 -- the sessions of a bank that isn't told their number: one, or as many as a machine counts if it may be
 -- served without end
 abbrev pub usual_sessions : Bool → ℕ
@@ -112,6 +116,12 @@ HasInteger option number words = (text : List ℕ) × HasValue option text words
 abbrev pub MayHaveInteger : List ℕ → Option ℕ → List (List ℕ) → Type 0
 MayHaveInteger option None words = (text : List ℕ) → ¬ (HasValue option text words)
 MayHaveInteger option (Some number) words = HasInteger option number words
+
+-- an option has this number, or this is the usual one, if there is one, and the option has no value
+abbrev pub HasIntegerOrUsual : List ℕ → Option ℕ → Option ℕ → List (List ℕ) → Type 0
+HasIntegerOrUsual option usual number words =
+    ((given : ℕ) × (number ≡ Some given) × HasInteger option given words)
+    ⊎ ((number ≡ usual) × ((text : List ℕ) → ¬ (HasValue option text words)))
 
 -- an option has this text, or none if it has no value
 abbrev pub MayHaveText : List ℕ → Option (Bor (List ℕ)) → List (List ℕ) → Type 0
@@ -190,15 +200,15 @@ module _ {A : Type 0} where
   GivesRun run words = GivesCounts run.nodes run.workers words
       × (run.strict ≡ has_word (codes "--strict") (map string_bytes words))
 
-  -- the numbers of sessions, nodes and workers that these words give, or the defaults; and the number of
-  -- clients at once and the seconds of patience, if they give any; and whether it is quiet
+  -- the numbers of sessions, nodes and workers that these words give, or the defaults; the number of clients
+  -- at once and the seconds of patience, if they give any, or 100 and 60 with a log; and whether it is quiet
   abbrev pub GivesPlan : Bool → Plan → List (String A) → Type 0
   GivesPlan logs plan words =
       HasIntegerOrDefault (codes "--sessions") (usual_sessions (may_be_endless logs plan.clients)) plan.sessions
       (map string_bytes words)
-      × MayHaveInteger (codes "--clients") plan.clients (map string_bytes words)
+      × HasIntegerOrUsual (codes "--clients") (usual_with_log logs 100) plan.clients (map string_bytes words)
       × GivesCounts plan.nodes plan.workers words
-      × MayHaveInteger (codes "--patience") plan.patience (map string_bytes words)
+      × HasIntegerOrUsual (codes "--patience") (usual_with_log logs 60) plan.patience (map string_bytes words)
       × (plan.is_quiet ≡ has_word (codes "--quiet") (map string_bytes words))
 
   -- the words give this address, this plan with its store's folder, and this log's folder, if any

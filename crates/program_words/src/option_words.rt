@@ -88,7 +88,7 @@ pub(crate) const CLIENTS: Word = Word {
     takes: Takes::Number("1..1000", 1, 1_000),
     standard: None,
     needed: Needed::No,
-    help: "How many clients are served at once; one more is hung up on. Without it one is served after the other",
+    help: "How many clients are served at once, with --log 100; one more is hung up on. Else one after the other",
 };
 
 pub(crate) const STORE: Word = Word {
@@ -112,7 +112,7 @@ pub(crate) const PATIENCE: Word = Word {
     takes: Takes::Number("1..86400", 1, 86_400),
     standard: None,
     needed: Needed::No,
-    help: "For how many seconds a client is waited for, at each read and each write; without it for ever",
+    help: "For how many seconds a client is waited for, at each read and each write: with --log 60, else for ever",
 };
 
 pub(crate) const QUIET: Word = Word {

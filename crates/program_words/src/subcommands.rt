@@ -68,8 +68,8 @@ then), 2 if the words are, and 3 for all else. docs/FORMATS.md has the notes.",
 const SERVE: Subcommand = Subcommand {
     name: "serve",
     about: "Serves clients over TCP",
-    long_about: "Serves clients over TCP: one after the other, or with --clients N up to N at once. Without --listen
-it does so on this machine alone.
+    long_about: "Serves clients over TCP: one after the other, or with --clients N up to N at once, with --log up to
+100. Without --listen it does so on this machine alone.
 
 Reads an opening from standard input, as `run` does, with nothing behind its line `begin`. Prints where
 it listens, a line as each session ends, and at the end the rows of all customers and the total. A

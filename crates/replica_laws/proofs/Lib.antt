@@ -9,6 +9,7 @@ pub mod FollowerOpenings
 pub mod FollowerTurns
 pub mod FramesHandedOut
 pub mod FramesHeard
+pub mod KeepingSyncs
 pub mod LongerLogs
 pub mod MovesAsEvents
 pub mod MovesInOrder

@@ -2,10 +2,12 @@
 ghost use Rattle.replica_laws.specs.AskAppends.{AsksAppend};
 ghost use Rattle.replica_laws.specs.FollowerEvents.{MessagesAreEvents};
 ghost use Rattle.replica_laws.specs.FollowerMoves.{FollowersMove, FollowersOpen, MessagesMove};
+ghost use Rattle.replica_laws.specs.KeepingSyncs.{KeepingSyncs};
 ghost use Rattle.replica_laws.specs.Node0Events.{Node0Events};
 ghost use Rattle.replica_laws.specs.Node0Moves.{Node0Moves, Node0Opens, Node0Stays};
 
 use sb_checkpoint::CheckpointStore;
+use sb_log::LogFile;
 
 /// A replica at the opening of a bank, which has stored nothing, is one of that bank. It is the
 /// replica of the reference machine at the opening, with one worker.
@@ -63,4 +65,12 @@ pub fn node0_stays<S: CheckpointStore>()
 /// before, the machine can append this one, and its log is then the first asks of these with this one.
 pub fn asks_append()
     ensures { AsksAppend }
+{}
+
+/// Keeping the log is a sync of the reference machine, and a start on what was kept is a crash. If a
+/// bank's keeper keeps the machine's log in an honest file, and no call of the file failed, the machine
+/// can sync; and whatever a stop leaves of the file, a start reads the log of that machine after some
+/// crash.
+pub fn keeping_syncs<F: LogFile>()
+    ensures { KeepingSyncs F.IsHonest F.content F.synced }
 {}

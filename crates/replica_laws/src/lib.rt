@@ -4,6 +4,6 @@
 mod laws;
 
 pub use laws::{
-    asks_append, followers_move, followers_open, messages_are_events, messages_move, node0_events,
-    node0_moves, node0_opens, node0_stays,
+    asks_append, followers_move, followers_open, keeping_syncs, messages_are_events, messages_move,
+    node0_events, node0_moves, node0_opens, node0_stays,
 };

@@ -1,5 +1,5 @@
 //! Clients who are served at once, over arrivals in memory.
-ghost use Rattle.std.specs.Prelude.{◌≡◌, ◌≤◌, ◌<◌, ℕ, length, None};
+ghost use Rattle.std.specs.Prelude.{◌≡◌, ◌≤◌, ◌<◌, ℕ, length, None, true};
 ghost use Rattle.std.specs.List.{All};
 ghost use Rattle.bank_server.specs.Clients.{IsReady};
 
@@ -26,7 +26,9 @@ struct Script<'a> {
 impl Arrivals for Script<'_> {
     ghost coming = { λ script. None };
 
-    ghost sent = { λ script. None };
+    ghost here = { λ script. None };
+
+    ghost outgoing = { λ script. record { sent = None; full = λ place. true } };
 
     fn next(&mut self, chunk: &mut [u8]) -> Option<Arrival> {
         let (client, piece) = *self.pieces.get(self.taken)?;

@@ -1,7 +1,6 @@
 //! The sessions of clients who are served at once, over connections in memory.
-ghost use Rattle.std.specs.Prelude.{◌≡◌, ◌≤◌, length, None};
-ghost use Rattle.std.specs.List.{All};
-ghost use Rattle.bank_server.specs.Clients.{IsReady};
+ghost use Rattle.std.specs.Prelude.{◌≡◌, ◌≤◌, ◌∷◌, ℕ, [], length, None, true};
+ghost use Rattle.bank_clients.specs.Sessions.{AreListed, AreReady};
 
 use crate::bank::{expect, expect_bytes, joined, opened};
 use crate::wire::{DEPOSIT, DONE, FLUSH, OTHER};
@@ -14,30 +13,25 @@ use std::alloc::Global;
 use std::io;
 use std::process::Abort;
 
-// What there is before a turn: the places of those who come, at most two pieces that arrive, each at its
-// place, how many bytes each connection takes at once, and which of them fail.
+// What there is before a turn: at most two pieces that arrive, each at its place, and how many bytes each
+// connection takes at once. No bytes are an end, and `None` is a connection that fails.
 #[derive(Clone, Copy)]
 struct Round<'a> {
-    guests: &'a [usize],
     pieces: &'a [(usize, Option<&'a [u8]>)],
     takes: usize,
-    broken: &'a [usize],
 }
 
 const QUIET: Round<'static> = Round {
-    guests: &[],
     pieces: &[],
     takes: 1_000,
-    broken: &[],
 };
 
 // Connections in memory, at two places.
 #[derive(Drop)]
 struct Wires<'a> {
     rounds: &'a [Round<'a>],
-    // How many rounds have begun, and in this one how many clients came, and how many pieces were taken.
+    // How many rounds have begun, and how many pieces were taken in this one.
     begun: usize,
-    came: usize,
     taken: usize,
     sent: Vec<Vec<u8>>,
     left: Vec<(usize, bool, AskCounts)>,
@@ -56,7 +50,9 @@ impl<'a> Wires<'a> {
 impl Arrivals for Wires<'_> {
     ghost coming = { λ wires. None };
 
-    ghost sent = { λ wires. None };
+    ghost here = { λ wires. None };
+
+    ghost outgoing = { λ wires. record { sent = None; full = λ place. true } };
 
     fn next(&mut self, chunk: &mut [u8]) -> Option<Arrival> {
         let (client, piece) = *self.now().pieces.get(self.taken)?;
@@ -79,17 +75,12 @@ fn put(bytes: &[u8], chunk: &mut [u8]) -> usize
 }
 
 impl Connections for Wires<'_> {
+    ghost writable_places = { λ wires. 0 ∷ 1 ∷ [] };
+
     fn wait(&mut self) -> io::Result<()> {
         self.begun = self.begun.saturating_add(1);
-        self.came = 0;
         self.taken = 0;
         Ok(())
-    }
-
-    fn admit(&mut self) -> Option<usize> {
-        let guest = *self.now().guests.get(self.came)?;
-        self.came = self.came.saturating_add(1);
-        Some(guest)
     }
 
     fn writable(&self) -> &[usize] {
@@ -107,22 +98,19 @@ impl Connections for Wires<'_> {
         }
     }
 
-    fn has_failed(&self, place: usize) -> bool {
-        self.now().broken.contains(&place)
-    }
-
     fn leave(&mut self, place: usize, is_at_fault: bool, counts: AskCounts) {
         let _ = self.left.push((place, is_at_fault, counts));
     }
 }
 
 // Three rounds at most, what each of two connections took by their end, whose sessions were over and how, in order,
-// and the length of the log then.
+// the asks of each of these, and the length of the log then.
 #[derive(Clone, Copy)]
 struct Case<'a> {
     rounds: &'a [Round<'a>],
     sent: [&'a [&'a [u8]]; PLACES],
     over: &'a [Over],
+    counts: &'a [AskCounts],
     calls: u64,
 }
 
@@ -130,14 +118,14 @@ struct Case<'a> {
 const PLACES: usize = 2;
 
 // Serves a round, and leaves the clients whose sessions are over.
-fn serve_round(
+fn serve_round<A: Connections>(
     rt: &impl Abort,
-    sessions: &mut Sessions<Wires<'_>>,
+    sessions: &mut Sessions<A>,
     primary: &mut Primary<MemoryStore>,
     found: &mut Vec<Over>,
 )
-    requires ready { All (λ client. IsReady (length primary.old.log) client) sessions.old.clients.all }
-    ensures ready { All (λ client. IsReady (length primary.new.log) client) sessions.new.clients.all }
+    requires ready { AreReady A.outgoing A.writable_places (length primary.old.log) sessions.old }
+    ensures ready { AreReady A.outgoing A.writable_places (length primary.new.log) sessions.new }
 {
     sessions.wait().expect(rt, "a round");
     sessions
@@ -149,8 +137,10 @@ fn serve_round(
 }
 
 // Leaves a client whose session is over, if there is one.
-fn leave_next(rt: &impl Abort, sessions: &mut Sessions<Wires<'_>>, found: &mut Vec<Over>)
-    ensures { sessions.new.clients ≡ sessions.old.clients }
+fn leave_next<A: Connections>(rt: &impl Abort, sessions: &mut Sessions<A>, found: &mut Vec<Over>)
+    requires listed { AreListed sessions.old.leaving sessions.old.clients.all }
+    ensures ready { (calls : ℕ) → AreReady A.outgoing A.writable_places calls sessions.old
+        → AreReady A.outgoing A.writable_places calls sessions.new }
 {
     if let Some(over) = sessions.next_over() {
         sessions.leave(over);
@@ -167,7 +157,6 @@ fn expect_case(rt: &impl Abort, alloc: Global, case: &Case) {
     let wires = Wires {
         rounds: case.rounds,
         begun: 0,
-        came: 0,
         taken: 0,
         sent,
         left: Vec::new(alloc),
@@ -183,14 +172,19 @@ fn expect_case(rt: &impl Abort, alloc: Global, case: &Case) {
         let wanted = joined(rt, alloc, wanted);
         expect_bytes(rt, bytes, &wanted, "what a connection took");
     }
-    for ((place, is_at_fault, counts), over) in wires.left.iter().zip(&over) {
+    expect(rt, wires.left.len() == case.counts.len(), "who is left");
+    for ((place, is_at_fault, counts), (over, asks)) in wires
+        .left
+        .iter()
+        .zip(over.iter().zip(case.counts))
+    {
         let broke_a_rule = matches!(
             over.ending,
             Err(SessionFault::Frame(_) | SessionFault::Unexpected | SessionFault::TooMany)
         );
         expect(rt, *place == over.place, "who is left");
         expect(rt, *is_at_fault == broke_a_rule, "who is notified");
-        expect(rt, *counts == over.counts, "whose asks are told");
+        expect(rt, counts == asks, "whose asks are told");
     }
     expect(rt, primary.log().length() == case.calls, "the log");
 }
@@ -228,15 +222,12 @@ const CASES: &[Case<'static>] = &[
     Case {
         rounds: &[
             Round {
-                guests: &[0, 1],
                 pieces: &[(0, Some(OTHER)), (0, Some(FLUSH))],
                 takes: 10,
-                broken: &[],
             },
             Round {
                 pieces: &[(1, Some(DEPOSIT)), (0, Some(b""))],
                 takes: 10,
-                ..QUIET
             },
             Round {
                 pieces: &[(1, Some(FLUSH))],
@@ -247,8 +238,8 @@ const CASES: &[Case<'static>] = &[
         over: &[Over {
             place: 0,
             ending: ENDED,
-            counts: ONE_NEW,
         }],
+        counts: &[ONE_NEW],
         calls: 2,
     },
     // A place is another client's then: it is told its own outcomes alone, and the same ask is no new
@@ -256,12 +247,10 @@ const CASES: &[Case<'static>] = &[
     Case {
         rounds: &[
             Round {
-                guests: &[1],
                 pieces: &[(1, Some(OTHER)), (1, Some(b"\x00\x01\x09"))],
                 ..QUIET
             },
             Round {
-                guests: &[1],
                 pieces: &[(1, Some(OTHER)), (1, Some(FLUSH))],
                 ..QUIET
             },
@@ -275,49 +264,43 @@ const CASES: &[Case<'static>] = &[
             Over {
                 place: 1,
                 ending: Err(SessionFault::Frame(FrameFault::UnknownTag)),
-                counts: ONE_NEW,
             },
             Over {
                 place: 1,
                 ending: ENDED,
-                counts: ONE_REPEAT,
             },
         ],
+        counts: &[ONE_NEW, ONE_REPEAT],
         calls: 1,
     },
     // A connection that takes nothing isn't over until it fails. What its client asked stands.
     Case {
         rounds: &[
             Round {
-                guests: &[0],
                 pieces: &[(0, Some(DEPOSIT)), (0, Some(FLUSH))],
                 takes: 0,
-                broken: &[],
             },
             Round {
                 pieces: &[(0, Some(b""))],
                 takes: 0,
-                ..QUIET
             },
             Round {
+                pieces: &[(0, None)],
                 takes: 0,
-                broken: &[0],
-                ..QUIET
             },
         ],
         sent: [&[], &[]],
         over: &[Over {
             place: 0,
             ending: Err(SessionFault::Device),
-            counts: ONE_NEW,
         }],
+        counts: &[ONE_NEW],
         calls: 1,
     },
     // A connection that fails ends its client at once, and no other.
     Case {
         rounds: &[
             Round {
-                guests: &[0, 1],
                 pieces: &[(1, Some(DEPOSIT)), (0, None)],
                 ..QUIET
             },
@@ -330,8 +313,8 @@ const CASES: &[Case<'static>] = &[
         over: &[Over {
             place: 0,
             ending: Err(SessionFault::Device),
-            counts: NO_ASK,
         }],
+        counts: &[NO_ASK],
         calls: 1,
     },
     // Each client's asks are its own, also where another one's come between them: one is new, the others
@@ -339,7 +322,6 @@ const CASES: &[Case<'static>] = &[
     Case {
         rounds: &[
             Round {
-                guests: &[0, 1],
                 pieces: &[(0, Some(OTHER)), (1, Some(THREE_OTHERS))],
                 ..QUIET
             },
@@ -357,20 +339,22 @@ const CASES: &[Case<'static>] = &[
             Over {
                 place: 1,
                 ending: ENDED,
-                counts: AskCounts {
-                    entries: 0,
-                    repeats: 2,
-                    refusals: 1,
-                },
             },
             Over {
                 place: 0,
                 ending: ENDED,
-                counts: AskCounts {
-                    entries: 1,
-                    repeats: 1,
-                    refusals: 0,
-                },
+            },
+        ],
+        counts: &[
+            AskCounts {
+                entries: 0,
+                repeats: 2,
+                refusals: 1,
+            },
+            AskCounts {
+                entries: 1,
+                repeats: 1,
+                refusals: 0,
             },
         ],
         calls: 1,

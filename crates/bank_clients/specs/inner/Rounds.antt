@@ -1,12 +1,22 @@
 -- Steps of a round in which nothing is asked.
-use Rattle.std.specs.Prelude.{List}
+use Rattle.std.specs.Prelude.{◌≡◌, ◌⊎◌, ℕ, true, Option, is_some, List, [], map, IfSome, slice_get}
+use Rattle.std.specs.List.{Contains}
 use Rattle.sb_calls.specs.declared.ask.Key.{Key}
 use Rattle.sb_calls.specs.declared.call.Call.{Call}
 use Rattle.sb_rows.specs.Rows.{Rows}
-use Rattle.bank_server.specs.Clients.{ClientOf}
+use Rattle.bank_server.specs.Clients.{ClientOf, End}
 use Rattle.bank_clients.specs.History.{GoesOn, OutsideOf}
 
--- whatever the log is, it stays, and each client stays served
+-- whatever the log is, it stays, no session ends, and each client stays served
 abbrev pub StandsBy : OutsideOf → List ClientOf → OutsideOf → List ClientOf → Type 0
 StandsBy outside old outside_after new = (opening : Rows) (log : List (Key × Call))
-    → GoesOn opening outside log old outside_after log new
+    → GoesOn opening outside log old [] outside_after log new
+
+-- how each client ended, if it has
+abbrev pub endings_of : List ClientOf → List (Option End)
+endings_of clients = map (λ client. client.ending) clients
+
+-- each client who has ended is listed, or among those who are listed next
+abbrev pub AreToBeListed : List ℕ → List ℕ → List ClientOf → Type 0
+AreToBeListed listed next clients = (i : ℕ) → IfSome (slice_get clients i)
+    (λ client. is_some client.ending ≡ true → Contains listed i ⊎ Contains next i)

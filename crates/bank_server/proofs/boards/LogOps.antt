@@ -69,6 +69,13 @@ one_more_op ops log rest op is at =
 pub length-ops : (f : Call → Op) (log : List (Key × Call)) → length (map f (calls_of log)) ≡ length log
 length-ops f log = length-map (calls_of log) f ∙ length-map log (λ entry. entry.1)
 
+-- the ops of a longer log
+pub ops_of_longer : (names : List (List ℕ)) (old new more : List (Key × Call)) → new ≡ old ++ more
+    → log_ops names new ≡ log_ops names old ++ log_ops names more
+ops_of_longer names old new more longer =
+    ap (log_ops names) longer ∙ ap (map (op_of names)) (map-append (λ (entry : Key × Call). entry.1) old more)
+    ∙ map-append (op_of names) (calls_of old) (calls_of more)
+
 -- ---- node 0, while its log grows
 
 -- it has a beginning of a longer log too
@@ -79,9 +86,6 @@ pub kept_by_more : {S K : Type 0} (model : KeeperModel K) (old new more : List (
 kept_by_more model old new more counts now keeper node kept valid longer =
     let behind = kept.valid.behind in
     let added = log_ops node.names more in
-    let ops : log_ops node.names new ≡ log_ops node.names old ++ added =
-    ap (log_ops node.names) longer ∙ ap (map (op_of node.names)) (map-append (λ (entry : Key × Call). entry.1) old more)
-    ∙ map-append (op_of node.names) (calls_of old) (calls_of more) in
     record {
       valid = record {
         log = valid;
@@ -91,7 +95,7 @@ kept_by_more model old new more counts now keeper node kept valid longer =
           uncut = behind.uncut;
           begins = (
             behind.begins.0 ++ added,
-            ops ∙ ap (λ (l : List Op). l ++ added) behind.begins.1 ∙ append_assoc node.board.log behind.begins.0 added,
+            ops_of_longer node.names old new more longer ∙ ap (λ (l : List Op). l ++ added) behind.begins.1 ∙ append_assoc node.board.log behind.begins.0 added,
           );
         };
       };

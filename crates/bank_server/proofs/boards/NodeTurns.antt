@@ -10,8 +10,8 @@ use Rattle.sb_calls.specs.Op.{op_of}
 use Rattle.sb_calls.specs.declared.ask.Key.{Key}
 use Rattle.sb_calls.specs.declared.call.Call.{Call}
 use Rattle.sb_sequencer.specs.Numbering.{call_of_number}
-use Rattle.bank_server.specs.Primary.{log_ops}
-use Rattle.bank_server.proofs.boards.LogOps.{op_here}
+use Rattle.bank_server.specs.Primary.{ExtendsLog, log_ops}
+use Rattle.bank_server.proofs.boards.LogOps.{op_here, ops_of_longer}
 use Rattle.sb_calls.specs.declared.op.Op.{Op}
 use Rattle.cown_board.specs.Board.{BoardOf, length_of}
 use Rattle.cown_workers.specs.Draining.{TakesSteps, CrewStep, IsDrained, EndsInVain, PreservesLog}
@@ -19,7 +19,7 @@ use Rattle.cown_workers.specs.Draining.{Exchanges as ExchangesAll}
 use Rattle.sb_replica.specs.Offers.{offer_answer, after_offer}
 use Rattle.sb_replica.specs.Replica.{RestOf, ReplicaOf, log_of, rest_of, with_log}
 use Rattle.sb_replica.specs.declared.offered.Offered.{Offered}
-use Rattle.bank_server.specs.NodeTurns.{NodeTurn, Offers, Exchanges, OffersNext, TurnsLead, TakesNodeTurns}
+use Rattle.bank_server.specs.NodeTurns.{NodeTurn, Offers, Exchanges, OffersNext, TurnsLead, TakesNodeTurn, TakesNodeTurns}
 use Rattle.bank_server.specs.inner.Appends.{HasOpsAt}
 
 -- ---- the ops that come next
@@ -148,3 +148,28 @@ module _ {S : Type 0} (log : List Op) where
       → ◌≡◌ {A = RestOf S × List (Option Op)} (rest_of new, new.held) (rest_of old, old.held) → TurnsLead log old new
   drains_on acts old new before after (Ok done) exchanged beside = exchanges_on old new exchanged.0 exchanged.1.1.exchanges beside
   drains_on acts old new before after (Err gone) exchanged beside = exchanges_on old new exchanged.1.1.before exchanged.1.1.exchanges beside
+
+-- ---- turns of a longer log
+
+module _ {S : Type 0} (log more : List Op) where
+  turn_of_longer : (turn : NodeTurn) (old new : ReplicaOf S) → TakesNodeTurn log old turn new → TakesNodeTurn (log ++ more) old turn new
+  turn_of_longer Offers old new offered = record {
+    op = offered.op;
+    next = slice_get-left log more (length_of old.board) (slice_get_within log (length_of old.board) offered.op offered.next) ∙ offered.next;
+    after = offered.after;
+  }
+  turn_of_longer (Exchanges step) old new exchanged = exchanged
+
+  turns_of_longer : (turns : List NodeTurn) (old new : ReplicaOf S) → TakesNodeTurns log old turns new → TakesNodeTurns (log ++ more) old turns new
+  turns_of_longer [] old new same = same
+  turns_of_longer (turn ∷ turns) old new taken =
+      (taken.0, turn_of_longer turn old taken.0 taken.1, turns_of_longer turns taken.0 new taken.2)
+
+-- turns of a log are turns of a longer one
+pub turned_for_longer : {S : Type 0} (names : List (List ℕ)) (log longer : List (Key × Call)) (old new : ReplicaOf S) → ExtendsLog log longer
+    → TurnsLead (log_ops names log) old new → TurnsLead (log_ops names longer) old new
+turned_for_longer names log longer old new extends turned = (
+  turned.0,
+  subst (λ (ops : List Op). TakesNodeTurns ops old turned.0 new) (sym (ops_of_longer names log longer extends.0 extends.1))
+      (turns_of_longer (log_ops names log) (log_ops names extends.0) turned.0 old new turned.1),
+)

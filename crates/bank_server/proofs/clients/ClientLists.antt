@@ -1,11 +1,11 @@
 -- What is heard of many clients, and what one of them makes of the others.
-use Rattle.std.proofs.Common.{arith, ◌≡◌, ℕ, ◌≤◌, ◌<◌, Bool, true, false, if◌then◌else◌, Option, Some, None, List, [], ◌∷◌, ◌++◌, length, refl, sym, ap, subst, ◌∙◌, append_assoc, append-nil}
+use Rattle.std.proofs.Common.{arith, ◌≡◌, ℕ, ◌≤◌, ◌<◌, ◌+◌, Bool, true, false, if◌then◌else◌, Option, Some, None, List, [], ◌∷◌, ◌++◌, length, refl, sym, ap, subst, ◌∙◌, append_assoc, append-nil}
 use Rattle.std.specs.Prelude.{◌==◌, ◌≢◌, IfSome, slice_get, slice_set}
 use Rattle.std.specs.List.{All}
 use Rattle.std.proofs.lemmas.Bool.{eqb-true}
 use Rattle.std.proofs.lemmas.Grind.{flat_map-append}
 use Rattle.std.proofs.lemmas.List.Elements.{All-append, All-cons, All-nil}
-use Rattle.std.proofs.lemmas.List.{length-set}
+use Rattle.std.proofs.lemmas.List.{length-set, length_push}
 use Rattle.std.proofs.lemmas.Option.{slice_get_within}
 use Rattle.sb_calls.proofs.CownContents.{eqb-refl}
 use Rattle.sb_rows.specs.Rows.{Rows}
@@ -14,9 +14,9 @@ use Rattle.sb_calls.specs.declared.call.Call.{Call}
 use Rattle.sb_frames.specs.declared.frame.Frame as wire
 use Rattle.sb_sequencer.specs.Numbering.{first_asks}
 use Rattle.cown_board.proofs.StateChanges.{slice_get-set_other, slice_get-set_same}
-use Rattle.bank_server.specs.Clients.{AreServed, AreTakenInOrder, ClientOf, IsServed, PastOf, Piece, TakesArrivals, TakesFromFront, ServesTurn, asks_of_all, frames_of_client, past_after, pieces_of_client, with_number}
+use Rattle.bank_server.specs.Clients.{AreServed, AreTakenInOrder, ClientOf, IsServed, PastOf, Piece, TakesArrivals, TakesFromFront, TakesOfThem, ServesTurn, asks_of_all, frames_of_client, past_after, pieces_of_client, with_number}
 use Rattle.bank_server.specs.Session.{ask_of_frame, asks_in}
-use Rattle.bank_server.specs.inner.ClientTurns.{HearsClient, IsServing, TellsClient, TellsClients, state_of_client}
+use Rattle.bank_server.specs.inner.ClientTurns.{HearsClient, IsServing, TakesSome, TellsClient, TellsClients, state_of_client}
 use Rattle.bank_server.proofs.clients.ClientSteps.{beside}
 use Rattle.bank_server.proofs.clients.ClientTurns.{served_from, serving_from}
 
@@ -271,27 +271,49 @@ from_front_more (Some a) None new xs ys first second = absurd first
 from_front_more (Some a) (Some b) None xs ys first second = absurd second
 from_front_more (Some a) (Some b) (Some c) xs ys first second = first ∙ ap (λ l. xs ++ l) second ∙ sym (append_assoc xs ys c)
 
-pub turn_begins : (opening : Rows) (coming : Option (List (ℕ × Piece))) (log : List (Key × Call)) (clients : List ClientOf)
-    → ServesTurn (IsServing opening) coming coming log clients log clients
-turn_begins opening coming log clients = record { arrivals = []; came = from_front_none coming; taken = takes_nothing opening log clients }
+of_them_none : (here : Option ℕ) → TakesOfThem 0 here here
+of_them_none None = tt
+of_them_none (Some n) = omega arith
 
-pub turn_on : (opening : Rows) (coming mid_coming left : Option (List (ℕ × Piece))) (old_log : List (Key × Call)) (old : List ClientOf)
-    (mid_log : List (Key × Call)) (mid : List ClientOf) (new_log : List (Key × Call)) (new : List ClientOf) (arrival : ℕ × Piece) → length new ≡ length mid
-    → ServesTurn (IsServing opening) coming mid_coming old_log old mid_log mid → TakesFromFront mid_coming left (arrival ∷ [])
-    → TakesArrivals (IsServing opening) mid_log mid (arrival ∷ []) new_log new → ServesTurn (IsServing opening) coming left old_log old new_log new
-turn_on opening coming mid_coming left old_log old mid_log mid new_log new arrival as_many first came second = record {
+of_them_more : (count : ℕ) (old mid new : Option ℕ) → TakesOfThem count old mid → TakesOfThem 1 mid new → TakesOfThem (count + 1) old new
+of_them_more count None mid new first second = tt
+of_them_more count (Some a) None new first second = absurd first
+of_them_more count (Some a) (Some b) None first second = absurd second
+of_them_more count (Some a) (Some b) (Some c) first second = omega (arith, first, second)
+
+pub turn_begins : (opening : Rows) (coming : Option (List (ℕ × Piece))) (here : Option ℕ) (log : List (Key × Call)) (clients : List ClientOf)
+    → TakesSome opening coming coming here here 0 log clients log clients
+turn_begins opening coming here log clients = record {
+  arrivals = [];
+  count_is = refl;
+  came = from_front_none coming;
+  of_them = of_them_none here;
+  taken = takes_nothing opening log clients;
+}
+
+pub turn_on : (opening : Rows) (coming mid_coming left : Option (List (ℕ × Piece))) (here mid_here here_left : Option ℕ) (count : ℕ)
+    (old_log : List (Key × Call)) (old : List ClientOf) (mid_log : List (Key × Call)) (mid : List ClientOf) (new_log : List (Key × Call))
+    (new : List ClientOf) (arrival : ℕ × Piece) → length new ≡ length mid
+    → TakesSome opening coming mid_coming here mid_here count old_log old mid_log mid → TakesFromFront mid_coming left (arrival ∷ [])
+    → TakesOfThem 1 mid_here here_left → TakesArrivals (IsServing opening) mid_log mid (arrival ∷ []) new_log new
+    → TakesSome opening coming left here here_left (count + 1) old_log old new_log new
+turn_on opening coming mid_coming left here mid_here here_left count old_log old mid_log mid new_log new arrival as_many first came one second = record {
   arrivals = first.arrivals ++ arrival ∷ [];
+  count_is = length_push first.arrivals arrival ∙ ap (λ n. n + 1) first.count_is;
   came = from_front_more coming mid_coming left first.arrivals (arrival ∷ []) first.came came;
+  of_them = of_them_more count here mid_here here_left first.of_them one;
   taken = takes_on opening old_log old first.arrivals mid_log mid (arrival ∷ []) new_log new as_many first.taken second;
 }
 
 -- a turn whose clients were told what was due
-pub turn_served : (opening : Rows) (coming left : Option (List (ℕ × Piece))) (old_log : List (Key × Call)) (old : List ClientOf) (new_log : List (Key × Call))
-    (mid new : List ClientOf) → ServesTurn (IsServing opening) coming left old_log old new_log mid → TellsClients opening new_log mid new
-    → ((i : ℕ) → IfSome (slice_get new i) (λ c. c.due ≡ 0)) → length new ≡ length mid → ServesTurn (IsServed opening) coming left old_log old new_log new
-turn_served opening coming left old_log old new_log mid new turn tells none_due as_many = record {
+pub turn_served : (opening : Rows) (coming left : Option (List (ℕ × Piece))) (here : Option ℕ) (old_log : List (Key × Call)) (old : List ClientOf)
+    (new_log : List (Key × Call)) (mid new : List ClientOf) → ServesTurn (IsServing opening) coming left here old_log old new_log mid
+    → TellsClients opening new_log mid new → ((i : ℕ) → IfSome (slice_get new i) (λ c. c.due ≡ 0)) → length new ≡ length mid
+    → ServesTurn (IsServed opening) coming left here old_log old new_log new
+turn_served opening coming left here old_log old new_log mid new turn tells none_due as_many = record {
   arrivals = turn.arrivals;
   came = turn.came;
+  all = turn.all;
   taken = λ asks past are.
       let took = turn.taken asks past (all_serving opening asks past old_log old are) in (
         took.0,

@@ -4,7 +4,7 @@ use Rattle.std.specs.Prelude.{◌==◌, ◌≢◌, IfSome, slice_get, slice_set}
 use Rattle.std.specs.List.{Contains}
 use Rattle.std.proofs.Math.Seq.{take-append_seam}
 use Rattle.std.proofs.lemmas.Bool.{eqb-true}
-use Rattle.std.proofs.lemmas.List.Elements.{All-nil, All-push, All-set}
+use Rattle.std.proofs.lemmas.List.Elements.{All-contains, All-nil, All-push, All-set}
 use Rattle.std.proofs.lemmas.List.{length-append, take-append-drop}
 use Rattle.std.proofs.lemmas.Option.{get_or_from_slice_get, slice_get_within}
 use Rattle.sb_calls.proofs.CownContents.{eqb-refl}
@@ -12,7 +12,7 @@ use Rattle.sb_rows.specs.Rows.{Rows}
 use Rattle.sb_calls.specs.declared.ask.Key.{Key}
 use Rattle.sb_calls.specs.declared.call.Call.{Call}
 use Rattle.cown_board.proofs.StateChanges.{slice_get-set_other, slice_get-set_same}
-use Rattle.bank_server.specs.Clients.{AreServed, ClientOf, End, HadManyUnread, HasBytes, IsLeft, IsReady, IsServed, PastOf, StaysReady, StaysServed, fresh_client, no_past, past_with, sends}
+use Rattle.bank_server.specs.Clients.{AreServed, ClientOf, End, HadManyUnread, HasBytes, IsLeft, IsReady, IsServed, PastOf, Piece, StaysReady, StaysServed, fresh_client, no_past, past_with, sends}
 use Rattle.bank_server.specs.Session.{IsFromClient}
 use Rattle.bank_server.specs.Standing.{IsStandingWithin}
 use Rattle.bank_server.specs.declared.session.TheConstants.{UNREAD_BYTES}
@@ -43,14 +43,19 @@ fresh_served opening asks log = record {
   given = refl;
   waiting = refl;
   none_due = refl;
-  heard = record { rest = []; bytes_are = refl; left = (All-nil HasBytes, refl, (refl, nothing_short)) };
+  heard = record {
+    rest = [];
+    bytes_are = refl;
+    left = (All-nil HasBytes, refl, (refl, nothing_short));
+    failed = (λ f. absurd (false_is_true f), λ there. absurd (All-contains (λ (p : Piece). ⊥) [] None (All-nil (λ (p : Piece). ⊥)) there));
+  };
 }
 
 pub joins_ready : (clients : List ClientOf) → StaysReady clients (clients ++ fresh_client ∷ [])
 joins_ready clients calls ready = All-push (λ (c : ClientOf). IsReady calls c) clients fresh_client ready (fresh_ready calls)
 
-pub replaces_ready : (clients : List ClientOf) (place : ℕ) → StaysReady clients (slice_set clients place fresh_client)
-replaces_ready clients place calls ready = All-set (λ (c : ClientOf). IsReady calls c) clients place fresh_client (fresh_ready calls) ready
+pub vacates_ready : (clients : List ClientOf) (place : ℕ) → StaysReady clients (slice_set clients place fresh_client)
+vacates_ready clients place calls ready = All-set (λ (c : ClientOf). IsReady calls c) clients place fresh_client (fresh_ready calls) ready
 
 -- the past of the client at a place, and of the others
 past_there : (place : ℕ) (now : PastOf) (past : ℕ → PastOf) → past_with place now past place ≡ now
@@ -79,9 +84,9 @@ sets_served clients place new now within serves opening asks log past are =
         (subst (λ (p : PastOf). IfSome (slice_get clients i) (λ c. IsServed opening asks log p c)) (sym (past_elsewhere place i (now past) past not_mine))
         (are.each i))
 
-pub replaces_served : (clients : List ClientOf) (place : ℕ) → place < length clients
+pub vacates_served : (clients : List ClientOf) (place : ℕ) → place < length clients
     → StaysServed (past_with place no_past) clients (slice_set clients place fresh_client)
-replaces_served clients place within =
+vacates_served clients place within =
     sets_served clients place fresh_client (λ past. no_past) within (λ opening asks log past are. fresh_served opening asks log)
 
 -- a new place behind the others
@@ -147,6 +152,7 @@ served_sent opening asks log past client count served = record {
     rest = served.heard.rest;
     bytes_are = served.heard.bytes_are;
     left = left_sent client.ending past client count served.heard.rest served.heard.left;
+    failed = served.heard.failed;
   };
 }
 

@@ -1,9 +1,9 @@
 -- What is heard of one client, piece after piece, and what it is told.
-use Rattle.std.proofs.Common.{arith, ◌≡◌, ℕ, ◌<◌, true, false, true≢false, Option, Some, None, is_some, Ok, Err, List, [], ◌∷◌, ◌++◌, length, map, refl, sym, ap, subst, ◌∙◌, append_assoc, append-nil, inl, inr}
-use Rattle.std.specs.Prelude.{◌≢◌, ◌⊎◌}
+use Rattle.std.proofs.Common.{arith, ◌≡◌, ℕ, ◌<◌, Bool, true, false, true≢false, Option, Some, None, is_some, Ok, Err, List, [], ◌∷◌, ◌++◌, length, map, refl, sym, ap, subst, ◌∙◌, append_assoc, append-nil, inl, inr}
+use Rattle.std.specs.Prelude.{◌≢◌, ◌⊎◌, ◌↔◌}
 use Rattle.std.specs.List.{All, Contains, flat_map}
 use Rattle.std.proofs.lemmas.List.{length-append, nil_from_length}
-use Rattle.std.proofs.lemmas.List.Elements.{All-cons, All-contains, All-contains_itself, All-head, All-nil, All-push, All-tail, Contains-append_left, Contains-append_right}
+use Rattle.std.proofs.lemmas.List.Elements.{All-cons, All-contains, All-contains_itself, All-head, All-nil, All-push, All-tail, Contains-append_cases, Contains-append_left, Contains-append_right}
 use Rattle.sb_rows.specs.Rows.{Rows}
 use Rattle.sb_calls.specs.declared.ask.Key.{Key}
 use Rattle.sb_calls.specs.declared.call.Call.{Call}
@@ -22,7 +22,7 @@ use Rattle.bank_server.specs.declared.session.TheConstants.{ASKS_BEFORE_FLUSH, U
 use Rattle.bank_server.specs.declared.session.session_fault.SessionFault.{SessionFault}
 use Rattle.bank_server.specs.declared.session.session_fault.SessionFault.TheVariants.{Frame, Unexpected, CrewGone, Device, OutOfMemory, Log, TooMany}
 use Rattle.bank_server.specs.inner.ClientSteps.{HandlesClient, ReachesClient, StopsClient, TellsDue}
-use Rattle.bank_server.specs.inner.ClientTurns.{HearsClient, IsServing, TellsClient, ending_of, state_of_client}
+use Rattle.bank_server.specs.inner.ClientTurns.{HearsClient, IsServing, TellsClient, ending_at_failure, ending_of, state_of_client}
 use Rattle.bank_server.proofs.sessions.FrameSteps.{bad_at, further}
 use Rattle.bank_server.proofs.clients.ClientSteps.{many_unflushed}
 
@@ -86,9 +86,66 @@ heard_by : (ending : Option End) (past : PastOf) (client : ClientOf) → client.
 heard_by ending past client same heard =
     (heard.rest, heard.bytes_are, subst (λ e. IsLeft e past client heard.rest) same heard.left)
 
-heard_from : (ending : Option End) (past : PastOf) (client : ClientOf) → client.ending ≡ ending → IsHeardBy ending past client → IsHeard past client
-heard_from ending past client same heard =
-    record { rest = heard.0; bytes_are = heard.1; left = subst (λ e. IsLeft e past client heard.0) (sym same) heard.2 }
+-- the connection failed if that came
+abbrev IsFailed : Bool → PastOf → Type 0
+IsFailed broken past = (broken ≡ true) ↔ Contains past.pieces None
+
+heard_from : (ending : Option End) (past : PastOf) (client : ClientOf) → client.ending ≡ ending → IsHeardBy ending past client
+    → IsFailed client.broken past → IsHeard past client
+heard_from ending past client same heard failed =
+    record { rest = heard.0; bytes_are = heard.1; left = subst (λ e. IsLeft e past client heard.0) (sym same) heard.2; failed = failed }
+
+-- and it still did
+failed_still : (past : PastOf) (old new : ClientOf) → new.broken ≡ old.broken → IsHeard past old → IsFailed new.broken past
+failed_still past old new same heard = (λ is. heard.failed.0 (sym same ∙ is), λ there. same ∙ heard.failed.1 there)
+
+-- and it came before bytes or an end
+failed_on : (past : PastOf) (bytes : List ℕ) (old new : ClientOf) → new.broken ≡ old.broken → IsHeard past old
+    → IsFailed new.broken (record past { pieces = past.pieces ++ Some bytes ∷ [] })
+failed_on past bytes old new same heard = (
+  λ is. Contains-append_left past.pieces (Some bytes ∷ []) None (heard.failed.0 (sym same ∙ is)),
+  λ there. same ∙ heard.failed.1 (before (Contains-append_cases past.pieces (Some bytes ∷ []) None there)),
+)
+  where
+    some_is_none : (Some bytes) ≡ None → ⊥
+    some_is_none e = cc
+
+    before : Contains past.pieces None ⊎ Contains (Some bytes ∷ []) None → Contains past.pieces None
+    before (inl there) = there
+    before (inr last) = absurd (some_is_none (All-contains (λ (p : Piece). Some bytes ≡ p) (Some bytes ∷ []) None
+        (All-cons (λ (p : Piece). Some bytes ≡ p) (Some bytes) [] refl (All-nil (λ (p : Piece). Some bytes ≡ p))) last))
+
+-- and it fails now
+failed_now : (past : PastOf) (new : ClientOf) → new.broken ≡ true → IsFailed new.broken (record past { pieces = past.pieces ++ None ∷ [] })
+failed_now past new is = (λ e. ends_there past.pieces None, λ there. is)
+
+-- what was heard stays heard when outcomes are given
+heard_told : (ending : Option End) (past : PastOf) (old new : ClientOf) (bytes : List ℕ) → new.stream ≡ old.stream → new.outcomes ≡ old.outcomes ++ bytes
+    → IsHeardBy ending past old → IsHeardBy ending past new
+heard_told None past old new bytes stream given (rest, are, (all, unread, short)) =
+    (rest, are, (all, unread ∙ ap (λ (s : StreamState). s.unread) (sym stream), subst IsShort (sym stream) short))
+heard_told (Some (Ok done)) past old new bytes stream given is = is
+heard_told (Some (Err (Frame fault))) past old new bytes stream given is = is
+heard_told (Some (Err Unexpected)) past old new bytes stream given is = is
+heard_told (Some (Err CrewGone)) past old new bytes stream given is = is
+heard_told (Some (Err OutOfMemory)) past old new bytes stream given is = is
+heard_told (Some (Err (Log fault))) past old new bytes stream given is = is
+heard_told (Some (Err TooMany)) past old new bytes stream given is = is
+heard_told (Some (Err Device)) past old new bytes stream given (rest, are, inl there) = (rest, are, inl there)
+heard_told (Some (Err Device)) past old new bytes stream given (rest, are, inr (before, since, sent, many)) = (
+  rest,
+  are,
+  inr (
+    before,
+    since,
+    sent,
+    subst (λ (o : List ℕ). UNREAD_BYTES < length (since ++ o)) (sym given)
+        (subst (λ (o : List ℕ). UNREAD_BYTES < length o) (append_assoc since old.outcomes bytes) longer),
+  ),
+)
+  where
+    longer : UNREAD_BYTES < length ((since ++ old.outcomes) ++ bytes)
+    longer = omega (arith, many, length-append (since ++ old.outcomes) bytes)
 
 -- a client that ended isn't heard
 deaf_by : (end : End) (past : PastOf) (piece : Piece) (client : ClientOf) → IsHeardBy (Some end) past client
@@ -149,16 +206,17 @@ nothing_taken opening log old new piece same heard asks past log_is serving = (
       })),
 )
 
-pub hears_deaf : (opening : Rows) (log : List (Key × Call)) (client : ClientOf) (piece : Piece) → is_some client.ending ≡ true
-    → HearsClient opening log client piece log client
-hears_deaf opening log client piece over = nothing_taken opening log client client piece refl (λ past heard. by client.ending refl over past heard)
+pub hears_deaf : (opening : Rows) (log : List (Key × Call)) (client : ClientOf) (bytes : List ℕ) → is_some client.ending ≡ true
+    → HearsClient opening log client (Some bytes) log client
+hears_deaf opening log client bytes over =
+    nothing_taken opening log client client (Some bytes) refl (λ past heard. by client.ending refl over past heard)
   where
     by : (ending : Option End) → client.ending ≡ ending → is_some ending ≡ true → (past : PastOf) → IsHeard past client
-        → IsHeard (record past { pieces = past.pieces ++ piece ∷ [] }) client
+        → IsHeard (record past { pieces = past.pieces ++ Some bytes ∷ [] }) client
     by None same is past heard = absurd (true≢false (sym is))
     by (Some end) same is past heard =
-        heard_from (Some end) (record past { pieces = past.pieces ++ piece ∷ [] }) client same
-        (deaf_by end past piece client (heard_by (Some end) past client same heard))
+        heard_from (Some end) (record past { pieces = past.pieces ++ Some bytes ∷ [] }) client same
+        (deaf_by end past (Some bytes) client (heard_by (Some end) past client same heard)) (failed_on past bytes client client refl heard)
 
 pub none_now : (ending : Option End) → is_some ending ≡ false → ending ≡ None
 none_now None is = refl
@@ -177,7 +235,7 @@ hears_end opening log old new on all same = nothing_taken opening log old new (S
       was.0,
       bytes_then past.pieces (Some [] ∷ []) was.2.0 ∙ append-nil (bytes_of past.pieces) ∙ was.1,
       (was.2.1 ∙ all, ends_there past.pieces (Some [])),
-    ))
+    ) (failed_on past [] old new (ap (λ (c : ClientOf). c.broken) same) heard))
 
 -- the end within a frame
 hears_short : (opening : Rows) (log : List (Key × Call)) (old new : ClientOf) → is_some old.ending ≡ false → old.stream.unread ≢ []
@@ -189,7 +247,7 @@ hears_short opening log old new on some same = nothing_taken opening log old new
       was.0,
       bytes_then past.pieces (Some [] ∷ []) was.2.0 ∙ append-nil (bytes_of past.pieces) ∙ was.1,
       ((ap decode_result was.2.1 ∙ was.2.2.1, λ none. some (sym was.2.1 ∙ none)), inr (ends_there past.pieces (Some []))),
-    ))
+    ) (failed_on past [] old new (ap (λ (c : ClientOf). c.broken) same) heard))
 
 -- either end
 pub hears_ending : (opening : Rows) (log : List (Key × Call)) (old new : ClientOf) → is_some old.ending ≡ false
@@ -203,26 +261,39 @@ hears_ending opening log old new on same = by old.stream.unread refl
     by [] e = hears_end opening log old new on e (same ∙ ap (λ u. record old { ending = Some (ending_of u) }) e)
     by (byte ∷ bytes) e = hears_short opening log old new on (λ none. not_empty (sym e ∙ none)) (same ∙ ap (λ u. record old { ending = Some (ending_of u) }) e)
 
--- the connection failed
-pub hears_failure : (opening : Rows) (log : List (Key × Call)) (old new : ClientOf) → is_some old.ending ≡ false
-    → new ≡ record old { ending = Some (Err Device) } → HearsClient opening log old None log new
-hears_failure opening log old new on same = nothing_taken opening log old new None (ap (state_of_client log) same)
+-- the connection failed, be it after the end
+abbrev pub broken_off : ClientOf → ClientOf
+broken_off client = record client { ending = ending_at_failure client.ending; broken = true }
+
+pub hears_failure : (opening : Rows) (log : List (Key × Call)) (old new : ClientOf)
+    → new ≡ broken_off old → HearsClient opening log old None log new
+hears_failure opening log old new same = nothing_taken opening log old new None (ap (state_of_client log) same)
     (λ past heard.
-    let was = heard_by None past old (none_now old.ending on) heard in
-    heard_from (Some (Err Device)) (record past { pieces = past.pieces ++ None ∷ [] }) new (ap (λ (c : ClientOf). c.ending) same) (
-      was.0,
-      bytes_then past.pieces (None ∷ []) was.2.0 ∙ append-nil (bytes_of past.pieces) ∙ was.1,
-      inl (ends_there past.pieces None),
-    ))
+    subst (λ (c : ClientOf). IsHeard (record past { pieces = past.pieces ++ None ∷ [] }) c) (sym same) (by old.ending refl past heard))
+  where
+    by : (ending : Option End) → old.ending ≡ ending → (past : PastOf) → IsHeard past old
+        → IsHeard (record past { pieces = past.pieces ++ None ∷ [] }) (broken_off old)
+    by None is past heard =
+        let was = heard_by None past old is heard in
+        heard_from (Some (Err Device)) (record past { pieces = past.pieces ++ None ∷ [] }) (broken_off old) (ap ending_at_failure is) (
+          was.0,
+          bytes_then past.pieces (None ∷ []) was.2.0 ∙ append-nil (bytes_of past.pieces) ∙ was.1,
+          inl (ends_there past.pieces None),
+        ) (failed_now past (broken_off old) refl)
+    by (Some end) is past heard =
+        let now : PastOf = record past { pieces = past.pieces ++ None ∷ [] } in
+        heard_from (Some end) now (broken_off old) (ap ending_at_failure is)
+        (heard_told (Some end) now old (broken_off old) [] refl (sym (append-nil old.outcomes))
+        (deaf_by end past None old (heard_by (Some end) past old is heard))) (failed_now past (broken_off old) refl)
 
 -- its bytes were taken as far as they are handled, and the rest is left
 takes_bytes : (opening : Rows) (old_log : List (Key × Call)) (old : ClientOf) (bytes : List ℕ) (new_log : List (Key × Call)) (new : ClientOf)
-    (rest : List ℕ) → is_some old.ending ≡ false → HasBytes (Some bytes)
+    (rest : List ℕ) → is_some old.ending ≡ false → HasBytes (Some bytes) → new.broken ≡ old.broken
     → HandlesClient opening (state_of_client old_log old) (old.stream.unread ++ bytes) (state_of_client new_log new) rest
     → ((past : PastOf) (asks : List (Key × Call)) → All HasBytes past.pieces
     → ReachesClient opening asks past.sent past.frames (state_of_client new_log new) → IsLeft new.ending past new rest)
     → HearsClient opening old_log old (Some bytes) new_log new
-takes_bytes opening old_log old bytes new_log new rest on has handles left asks past log_is serving =
+takes_bytes opening old_log old bytes new_log new rest on has broken handles left asks past log_is serving =
     let was = heard_by None past old (none_now old.ending on) serving.heard in
     let reached : ReachesClient opening (asks ++ asks_in handles.more) past.sent (past.frames ++ handles.more)
     (state_of_client new_log new) =
@@ -239,41 +310,42 @@ takes_bytes opening old_log old bytes new_log new rest on has handles left asks 
               ∙ further bytes (bytes_of past.pieces) old.stream.unread rest past.frames handles.more
               (was.1 ∙ ap (λ (l : List ℕ). flat_map spelling past.frames ++ l) was.2.1) handles.read;
           left = left now (asks ++ asks_in handles.more) (All-push HasBytes past.pieces (Some bytes) was.2.0 has) reached;
+          failed = failed_on past bytes old new broken serving.heard;
         };
       },
     )
 
 pub hears_well : (opening : Rows) (old_log : List (Key × Call)) (old : ClientOf) (bytes : List ℕ) (new_log : List (Key × Call)) (new : ClientOf)
-    → is_some old.ending ≡ false → HasBytes (Some bytes) → new.ending ≡ old.ending → IsShort new.stream
+    → is_some old.ending ≡ false → HasBytes (Some bytes) → new.broken ≡ old.broken → new.ending ≡ old.ending → IsShort new.stream
     → HandlesClient opening (state_of_client old_log old) (old.stream.unread ++ bytes) (state_of_client new_log new) new.stream.unread
     → HearsClient opening old_log old (Some bytes) new_log new
-hears_well opening old_log old bytes new_log new on has same short handles =
-    takes_bytes opening old_log old bytes new_log new new.stream.unread on has handles
+hears_well opening old_log old bytes new_log new on has broken same short handles =
+    takes_bytes opening old_log old bytes new_log new new.stream.unread on has broken handles
     (λ past asks all reached. subst (λ e. IsLeft e past new new.stream.unread) (sym (same ∙ none_now old.ending on)) (all, refl, short))
 
 hears_bad : (opening : Rows) (old_log : List (Key × Call)) (old : ClientOf) (bytes : List ℕ) (new_log : List (Key × Call)) (new : ClientOf) (fault : FrameFault)
-    → is_some old.ending ≡ false → HasBytes (Some bytes) → new.ending ≡ Some (Err (Frame fault))
+    → is_some old.ending ≡ false → HasBytes (Some bytes) → new.broken ≡ old.broken → new.ending ≡ Some (Err (Frame fault))
     → StopsClient opening ASKS_BEFORE_FLUSH (state_of_client old_log old) (old.stream.unread ++ bytes) (Frame fault) (state_of_client new_log new)
     → HearsClient opening old_log old (Some bytes) new_log new
-hears_bad opening old_log old bytes new_log new fault on has is stops =
-    takes_bytes opening old_log old bytes new_log new stops.rest on has stops.handles
+hears_bad opening old_log old bytes new_log new fault on has broken is stops =
+    takes_bytes opening old_log old bytes new_log new stops.rest on has broken stops.handles
     (λ past asks all reached. subst (λ e. IsLeft e past new stops.rest) (sym is)
     (subst (IsFaultAt (Frame fault)) (append-nil stops.rest) (stops.at []), inl stops.of_frames))
 
 hears_unexpected : (opening : Rows) (old_log : List (Key × Call)) (old : ClientOf) (bytes : List ℕ) (new_log : List (Key × Call)) (new : ClientOf)
-    → is_some old.ending ≡ false → HasBytes (Some bytes) → new.ending ≡ Some (Err Unexpected)
+    → is_some old.ending ≡ false → HasBytes (Some bytes) → new.broken ≡ old.broken → new.ending ≡ Some (Err Unexpected)
     → StopsClient opening ASKS_BEFORE_FLUSH (state_of_client old_log old) (old.stream.unread ++ bytes) Unexpected (state_of_client new_log new)
     → HearsClient opening old_log old (Some bytes) new_log new
-hears_unexpected opening old_log old bytes new_log new on has is stops =
-    takes_bytes opening old_log old bytes new_log new stops.rest on has stops.handles
+hears_unexpected opening old_log old bytes new_log new on has broken is stops =
+    takes_bytes opening old_log old bytes new_log new stops.rest on has broken stops.handles
     (λ past asks all reached. subst (λ e. IsLeft e past new stops.rest) (sym is) (subst (IsFaultAt Unexpected) (append-nil stops.rest) (stops.at [])))
 
 hears_many : (opening : Rows) (old_log : List (Key × Call)) (old : ClientOf) (bytes : List ℕ) (new_log : List (Key × Call)) (new : ClientOf)
-    → is_some old.ending ≡ false → HasBytes (Some bytes) → new.ending ≡ Some (Err TooMany)
+    → is_some old.ending ≡ false → HasBytes (Some bytes) → new.broken ≡ old.broken → new.ending ≡ Some (Err TooMany)
     → StopsClient opening ASKS_BEFORE_FLUSH (state_of_client old_log old) (old.stream.unread ++ bytes) TooMany (state_of_client new_log new)
     → HearsClient opening old_log old (Some bytes) new_log new
-hears_many opening old_log old bytes new_log new on has is stops =
-    takes_bytes opening old_log old bytes new_log new stops.rest on has stops.handles
+hears_many opening old_log old bytes new_log new on has broken is stops =
+    takes_bytes opening old_log old bytes new_log new stops.rest on has broken stops.handles
     (λ past asks all reached. subst (λ e. IsLeft e past new stops.rest) (sym is) (
       subst (IsFaultAt TooMany) (append-nil stops.rest) (stops.at []),
       many_unflushed opening asks past.sent past.frames (state_of_client new_log new) ASKS_BEFORE_FLUSH reached stops.of_frames,
@@ -281,65 +353,42 @@ hears_many opening old_log old bytes new_log new on has is stops =
 
 -- its bytes were taken up to a fault of its own
 pub hears_fault : (opening : Rows) (old_log : List (Key × Call)) (old : ClientOf) (bytes : List ℕ) (new_log : List (Key × Call)) (new : ClientOf)
-    (fault : SessionFault) → is_some old.ending ≡ false → HasBytes (Some bytes) → new.ending ≡ Some (Err fault) → fault ≢ OutOfMemory
+    (fault : SessionFault) → is_some old.ending ≡ false → HasBytes (Some bytes) → new.broken ≡ old.broken → new.ending ≡ Some (Err fault)
+    → fault ≢ OutOfMemory
     → StopsClient opening ASKS_BEFORE_FLUSH (state_of_client old_log old) (old.stream.unread ++ bytes) fault (state_of_client new_log new)
     → HearsClient opening old_log old (Some bytes) new_log new
-hears_fault opening old_log old bytes new_log new (Frame fault) on has is other stops = hears_bad opening old_log old bytes new_log new fault on has is stops
-hears_fault opening old_log old bytes new_log new Unexpected on has is other stops = hears_unexpected opening old_log old bytes new_log new on has is stops
-hears_fault opening old_log old bytes new_log new CrewGone on has is other stops = absurd stops.of_frames
-hears_fault opening old_log old bytes new_log new Device on has is other stops = absurd stops.of_frames
-hears_fault opening old_log old bytes new_log new OutOfMemory on has is other stops = absurd (other refl)
-hears_fault opening old_log old bytes new_log new (Log fault) on has is other stops = absurd stops.of_frames
-hears_fault opening old_log old bytes new_log new TooMany on has is other stops = hears_many opening old_log old bytes new_log new on has is stops
+hears_fault opening old_log old bytes new_log new (Frame fault) on has broken is other stops =
+    hears_bad opening old_log old bytes new_log new fault on has broken is stops
+hears_fault opening old_log old bytes new_log new Unexpected on has broken is other stops =
+    hears_unexpected opening old_log old bytes new_log new on has broken is stops
+hears_fault opening old_log old bytes new_log new CrewGone on has broken is other stops = absurd stops.of_frames
+hears_fault opening old_log old bytes new_log new Device on has broken is other stops = absurd stops.of_frames
+hears_fault opening old_log old bytes new_log new OutOfMemory on has broken is other stops = absurd (other refl)
+hears_fault opening old_log old bytes new_log new (Log fault) on has broken is other stops = absurd stops.of_frames
+hears_fault opening old_log old bytes new_log new TooMany on has broken is other stops =
+    hears_many opening old_log old bytes new_log new on has broken is stops
 
 -- ---- what is told
-
--- what was heard stays heard when outcomes are given
-heard_told : (ending : Option End) (past : PastOf) (old new : ClientOf) (bytes : List ℕ) → new.stream ≡ old.stream → new.outcomes ≡ old.outcomes ++ bytes
-    → IsHeardBy ending past old → IsHeardBy ending past new
-heard_told None past old new bytes stream given (rest, are, (all, unread, short)) =
-    (rest, are, (all, unread ∙ ap (λ (s : StreamState). s.unread) (sym stream), subst IsShort (sym stream) short))
-heard_told (Some (Ok done)) past old new bytes stream given is = is
-heard_told (Some (Err (Frame fault))) past old new bytes stream given is = is
-heard_told (Some (Err Unexpected)) past old new bytes stream given is = is
-heard_told (Some (Err CrewGone)) past old new bytes stream given is = is
-heard_told (Some (Err OutOfMemory)) past old new bytes stream given is = is
-heard_told (Some (Err (Log fault))) past old new bytes stream given is = is
-heard_told (Some (Err TooMany)) past old new bytes stream given is = is
-heard_told (Some (Err Device)) past old new bytes stream given (rest, are, inl there) = (rest, are, inl there)
-heard_told (Some (Err Device)) past old new bytes stream given (rest, are, inr (before, since, sent, many)) = (
-  rest,
-  are,
-  inr (
-    before,
-    since,
-    sent,
-    subst (λ (o : List ℕ). UNREAD_BYTES < length (since ++ o)) (sym given)
-        (subst (λ (o : List ℕ). UNREAD_BYTES < length o) (append_assoc since old.outcomes bytes) longer),
-  ),
-)
-  where
-    longer : UNREAD_BYTES < length ((since ++ old.outcomes) ++ bytes)
-    longer = omega (arith, many, length-append (since ++ old.outcomes) bytes)
 
 -- a client ends in a turn if too many of its outcomes are unread
 abbrev pub EndsByUnread : ClientOf → ClientOf → Type 0
 EndsByUnread old new = (old.ending ≡ None) × (new.ending ≡ Some (Err Device)) × (UNREAD_BYTES < length new.outcomes)
 
-heard_after : (past : PastOf) (old new : ClientOf) (bytes : List ℕ) → new.stream ≡ old.stream → new.outcomes ≡ old.outcomes ++ bytes
-    → (new.ending ≡ old.ending) ⊎ EndsByUnread old new → IsHeard past old → IsHeard past new
-heard_after past old new bytes stream given (inl same) heard =
+heard_after : (past : PastOf) (old new : ClientOf) (bytes : List ℕ) → new.stream ≡ old.stream → new.broken ≡ old.broken
+    → new.outcomes ≡ old.outcomes ++ bytes → (new.ending ≡ old.ending) ⊎ EndsByUnread old new → IsHeard past old → IsHeard past new
+heard_after past old new bytes stream broken given (inl same) heard =
     heard_from old.ending past new same (heard_told old.ending past old new bytes stream given (heard_by old.ending past old refl heard))
-heard_after past old new bytes stream given (inr (on, is, many)) heard =
+    (failed_still past old new broken heard)
+heard_after past old new bytes stream broken given (inr (on, is, many)) heard =
     let was = heard_by None past old on heard in
-    heard_from (Some (Err Device)) past new is (was.0, was.1, inr (past.sent, [], sym (append-nil past.sent), many))
+    heard_from (Some (Err Device)) past new is (was.0, was.1, inr (past.sent, [], sym (append-nil past.sent), many)) (failed_still past old new broken heard)
 
-pub tells_client : (opening : Rows) (log : List (Key × Call)) (old new : ClientOf) (bytes : List ℕ) → new.stream ≡ old.stream
+pub tells_client : (opening : Rows) (log : List (Key × Call)) (old new : ClientOf) (bytes : List ℕ) → new.stream ≡ old.stream → new.broken ≡ old.broken
     → TellsDue opening (state_of_client log old) (state_of_client log new) → new.outcomes ≡ old.outcomes ++ bytes
     → (new.ending ≡ old.ending) ⊎ EndsByUnread old new → TellsClient opening log old new
-tells_client opening log old new bytes stream tells appended ending asks past serving = record {
+tells_client opening log old new bytes stream broken tells appended ending asks past serving = record {
   reached = tells asks past.sent past.frames serving.reached;
-  heard = heard_after past old new bytes stream appended ending serving.heard;
+  heard = heard_after past old new bytes stream broken appended ending serving.heard;
 }
 
 -- ---- between turns

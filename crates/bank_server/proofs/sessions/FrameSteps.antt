@@ -1,26 +1,29 @@
 -- What is handled, frame after frame, and faults.
-use Rattle.std.proofs.Common.{◌≡◌, ℕ, Bool, false, Result, Err, List, [], ◌++◌, refl, sym, ap, ◌∙◌, append_assoc, arith}
+use Rattle.std.proofs.Common.{◌≡◌, ℕ, Bool, false, Result, Err, List, [], ◌++◌, refl, sym, ap, subst, ◌∙◌, append_assoc, arith}
 use Rattle.std.specs.Prelude.{◌≢◌}
 use Rattle.std.specs.List.{flat_map}
 use Rattle.std.proofs.lemmas.Grind.{flat_map-append}
 use Rattle.sb_calls.specs.declared.op.Op.{Op}
 use Rattle.sb_ask_log.specs.Keeping.{KeeperModel}
 use Rattle.cown_board.specs.Board.{BoardOf}
-use Rattle.cown_workers.specs.Draining.{HasNoneOut}
+use Rattle.cown_workers.specs.Draining.{HasNoneOut, PreservesLog}
 use Rattle.sb_frames.proofs.Frames.{decoded_settled}
 use Rattle.sb_frames.specs.Decoding.{decode_result, frame_size}
 use Rattle.sb_frames.specs.Grammar.{spelling}
 use Rattle.sb_frames.specs.declared.fault.FrameFault.{FrameFault}
 use Rattle.sb_frames.specs.declared.fault.FrameFault.TheVariants.{Short}
 use Rattle.sb_frames.specs.declared.frame.Frame.{Frame}
-use Rattle.bank_server.specs.Primary.{PreservesBank, PrimaryOf}
+use Rattle.sb_replica.specs.Replica.{ReplicaOf, RestOf, rest_of}
+use Rattle.bank_server.specs.NodeTurns.{TurnsLead}
+use Rattle.bank_server.specs.Primary.{PreservesBank, PrimaryOf, log_ops}
 use Rattle.bank_server.specs.inner.NumberedAsks.{NumbersAsks}
 use Rattle.bank_server.specs.SessionResults.{IsFaultAt}
 use Rattle.bank_server.specs.SessionFaults.{LosesCrew}
 use Rattle.bank_server.specs.declared.session.session_fault.SessionFault.{SessionFault}
 use Rattle.bank_server.specs.declared.session.session_fault.SessionFault.TheVariants as faults
 use Rattle.bank_server.specs.declared.session.session_fault.SessionFault.TheVariants.{Unexpected, CrewGone, Device, OutOfMemory, Log, TooMany}
-use Rattle.bank_server.proofs.sessions.Keeping.{goes_on_after}
+use Rattle.bank_server.proofs.sessions.Keeping.{extends_after, goes_on_after, kept_bank}
+use Rattle.bank_server.proofs.boards.NodeTurns.{goes_on, turned_for_longer}
 
 -- frames more, behind those of bytes before
 pub further : (bytes heard unread left : List ℕ) (wires more : List Frame) → heard ≡ flat_map spelling wires ++ unread
@@ -34,11 +37,26 @@ further bytes heard unread left wires more heard_are read =
 
 pub keeps_on : {S K : Type 0} {model : KeeperModel K} (old mid new : PrimaryOf S K)
     → PreservesBank model old mid → PreservesBank model mid new → PreservesBank model old new
-keeps_on old mid new first second = record {
+keeps_on {S} old mid new first second = record {
   rest = second.rest ∙ first.rest;
   opening = second.opening ∙ first.opening;
+  log = extends_after old.log mid.log new.log first.log second.log;
   keeper = goes_on_after old.keeper mid.keeper new.keeper old.log mid.log new.log first.keeper second.keeper;
+  turns = goes_on (log_ops new.node.names new.log)
+      (turned_for_longer new.node.names mid.log new.log old.node mid.node second.log
+      (subst (λ (r : RestOf S). TurnsLead (log_ops r.names mid.log) old.node mid.node) (sym second.rest) first.turns))
+      second.turns;
 }
+
+-- then node 0 executes what is unfinished
+pub executes_on : {S K : Type 0} {model : KeeperModel K} (old mid new : PrimaryOf S K) (at : ReplicaOf S)
+    → PreservesBank model old mid → at ≡ mid.node → rest_of new.node ≡ rest_of at → PreservesLog at.board new.node.board
+    → ((log : List Op) → TurnsLead log at new.node) → new.keeper ≡ mid.keeper → new.log ≡ mid.log → PreservesBank model old new
+executes_on {S} old mid new at bank there rest stays turns keeper log =
+    let ops = log_ops mid.node.names mid.log in
+    keeps_on old mid new bank (kept_bank mid new
+    (rest ∙ ap (λ (r : ReplicaOf S). rest_of r) there) (stays.opening ∙ ap (λ (r : ReplicaOf S). r.board.opening) there) keeper log
+    (subst (λ (r : ReplicaOf S). TurnsLead ops r new.node) there (turns ops)))
 
 pub numbers_on : {S K : Type 0} {model : KeeperModel K} (old mid new : PrimaryOf S K)
     → NumbersAsks model old mid → NumbersAsks model mid new → NumbersAsks model old new

@@ -2,15 +2,27 @@
 use Rattle.std.proofs.Common.{◌≡◌, Result, Ok, Err, List, [], ◌∷◌, ◌++◌, length, refl, sym, ap, subst, ◌∙◌, append_assoc, append-nil, arith, length-append}
 use Rattle.sb_calls.specs.declared.ask.Key.{Key}
 use Rattle.sb_calls.specs.declared.call.Call.{Call}
-use Rattle.sb_replica.specs.Replica.{ReplicaOf, rest_of}
+use Rattle.sb_replica.specs.Replica.{ReplicaOf, RestOf, rest_of}
 use Rattle.sb_sequencer.specs.Answer.{LogAfter}
 use Rattle.sb_sequencer.specs.declared.answer.AskFault.{AskFault}
 use Rattle.sb_sequencer.specs.declared.answer.Numbered.{Numbered}
 use Rattle.sb_sequencer.specs.declared.answer.Numbered.TheVariants.{New, Repeat}
 use Rattle.sb_ask_log.specs.Keeping.{KeeperGoesOn, KeeperModel, KeepsOn}
-use Rattle.bank_server.specs.inner.AskSteps.{ExtendsLog}
-use Rattle.bank_server.specs.Primary.{PreservesBank, PrimaryOf}
+use Rattle.bank_server.specs.NodeTurns.{TurnsLead}
+use Rattle.bank_server.specs.Primary.{ExtendsLog, PreservesBank, PrimaryOf, log_ops}
 use Rattle.bank_server.specs.inner.NumberedAsks.{NumbersAsks}
+use Rattle.bank_server.proofs.boards.NodeTurns.{stays_so, turned_for_longer}
+
+-- a log that stays is extended by nothing
+pub same_log : (old new : List (Key × Call)) → new ≡ old → ExtendsLog old new
+same_log old new same = ([], same ∙ sym (append-nil old))
+
+-- what extends a log that extends another extends that one too
+pub extends_after : (old mid new : List (Key × Call)) → ExtendsLog old mid → ExtendsLog mid new → ExtendsLog old new
+extends_after old mid new first second = (
+  first.0 ++ second.0,
+  second.1 ∙ ap (λ (l : List (Key × Call)). l ++ second.0) first.1 ∙ append_assoc old first.0 second.0,
+)
 
 module _ {K : Type 0} (model : KeeperModel K) where
   -- a beginning of the log is a beginning of a longer one
@@ -56,19 +68,28 @@ module _ {K : Type 0} {model : KeeperModel K} where
 
   pub same_on : (old new : K) (old_log new_log : List (Key × Call)) → new ≡ old → new_log ≡ old_log
       → KeeperGoesOn model old old_log new new_log
-  same_on old new old_log new_log same log = grown_on old new old_log new_log same ([], log ∙ sym (append-nil old_log))
+  same_on old new old_log new_log same log = grown_on old new old_log new_log same (same_log old_log new_log log)
 
   -- a bank that stays is preserved
   pub stays_bank : {S : Type 0} (bank : PrimaryOf S K) → PreservesBank model bank bank
-  stays_bank bank = record { rest = refl; opening = refl; keeper = same_on bank.keeper bank.keeper bank.log bank.log refl refl }
+  stays_bank bank = record {
+    rest = refl;
+    opening = refl;
+    log = same_log bank.log bank.log refl;
+    keeper = same_on bank.keeper bank.keeper bank.log bank.log refl refl;
+    turns = stays_so (log_ops bank.node.names bank.log) refl;
+  }
 
   -- the log, the keeper and what node 0 has beside its board stay
   pub kept_bank : {S : Type 0} (old new : PrimaryOf S K) → rest_of new.node ≡ rest_of old.node → new.node.board.opening ≡ old.node.board.opening
-      → new.keeper ≡ old.keeper → new.log ≡ old.log → PreservesBank model old new
-  kept_bank old new rest board keeper log = record {
+      → new.keeper ≡ old.keeper → new.log ≡ old.log → TurnsLead (log_ops old.node.names old.log) old.node new.node → PreservesBank model old new
+  kept_bank {S} old new rest board keeper log turns = record {
     rest = rest;
     opening = board;
+    log = same_log old.log new.log log;
     keeper = same_on old.keeper new.keeper old.log new.log keeper log;
+    turns = turned_for_longer new.node.names old.log new.log old.node new.node (same_log old.log new.log log)
+        (subst (λ (r : RestOf S). TurnsLead (log_ops r.names old.log) old.node new.node) (sym rest) turns);
   }
 
   -- nothing was numbered
@@ -84,12 +105,14 @@ module _ {K : Type 0} {model : KeeperModel K} where
     bank = record {
       rest = ap (λ (r : ReplicaOf S). rest_of r) node;
       opening = ap (λ (r : ReplicaOf S). r.board.opening) node;
+      log = extends;
       keeper = grown_on old.keeper new.keeper old.log new.log keeper extends;
+      turns = stays_so (log_ops new.node.names new.log) node;
     };
   }
 
 -- an ask extends the log, whatever the answer
 pub extends_by_answer : (old new : List (Key × Call)) (ask : Key × Call) (answer : Result Numbered AskFault) → LogAfter old ask answer new → ExtendsLog old new
 extends_by_answer old new ask (Ok (New n)) log = (ask ∷ [], log)
-extends_by_answer old new ask (Ok (Repeat n)) log = ([], log ∙ sym (append-nil old))
-extends_by_answer old new ask (Err fault) log = ([], log ∙ sym (append-nil old))
+extends_by_answer old new ask (Ok (Repeat n)) log = same_log old new log
+extends_by_answer old new ask (Err fault) log = same_log old new log

@@ -43,10 +43,6 @@ HasLogNumber (Err (faults.Mismatch n)) = IsLogNumber n
 HasLogNumber (Err faults.LogFull) = Unit {0}
 HasLogNumber (Err faults.OutOfMemory) = Unit {0}
 
--- the new log begins with the old one
-abbrev pub ExtendsLog : List (Key × Call) → List (Key × Call) → Type 0
-ExtendsLog old new = (more : List (Key × Call)) × (new ≡ old ++ more)
-
 -- one more ask was made, and this is its standing in the log
 abbrev pub AddsAsk : List (Key × Call) → Key × Call → List (Key × Call) → Standing → Type 0
 AddsAsk asks ask new standing = (new ≡ first_asks (asks ++ ask ∷ [])) × (standing ≡ standing_of new ask)

@@ -1,5 +1,5 @@
 -- Clients within a turn, when outcomes may be due.
-use Rattle.std.specs.Prelude.{◌≡◌, ◌⊎◌, ℕ, Option, Ok, Err, List, ◌∷◌, [], ◌++◌, IfSome, slice_get}
+use Rattle.std.specs.Prelude.{◌≡◌, ◌⊎◌, ℕ, Bool, Option, Some, None, Ok, Err, List, ◌∷◌, [], ◌++◌, length, IfSome, slice_get}
 use Rattle.std.specs.List.{Contains}
 use Rattle.sb_rows.specs.Rows.{Rows}
 use Rattle.sb_calls.specs.declared.ask.Key.{Key}
@@ -7,28 +7,34 @@ use Rattle.sb_calls.specs.declared.call.Call.{Call}
 use Rattle.sb_frames.specs.declared.fault.FrameFault.TheVariants.{Short}
 use Rattle.sb_frames.specs.declared.frame.Frame as wire
 use Rattle.sb_sequencer.specs.Numbering.{first_asks}
-use Rattle.bank_server.specs.Clients.{AreServed, ClientOf, End, IsHeard, PastOf, Piece}
+use Rattle.bank_server.specs.Clients.{AreServed, ClientOf, End, IsHeard, PastOf, Piece, TakesArrivals, TakesFromFront, TakesOfThem}
 use Rattle.bank_server.specs.Session.{asks_in}
 use Rattle.bank_server.specs.declared.node0.ask_counts.AskCounts.{AskCounts}
 use Rattle.bank_server.specs.declared.session.inbox.Inbox.{Inbox}
-use Rattle.bank_server.specs.declared.session.session_fault.SessionFault.TheVariants.{Frame}
+use Rattle.bank_server.specs.declared.session.session_fault.SessionFault.TheVariants.{Frame, Device}
 use Rattle.bank_server.specs.inner.ClientSteps.{ClientState, ReachesClient}
 
 -- a client with this inbox
-abbrev pub client_of : Inbox → List ℕ → AskCounts → Option End → ClientOf
-client_of inbox outcomes counts ending = record {
+abbrev pub client_of : Inbox → List ℕ → AskCounts → Option End → Bool → ClientOf
+client_of inbox outcomes counts ending broken = record {
   stream = inbox.stream;
   pending = inbox.pending.items;
   due = inbox.due;
   outcomes = outcomes;
   counts = counts;
   ending = ending;
+  broken = broken;
 }
 
 -- how a client ends whose last bytes are these, that aren't a whole frame
 abbrev pub ending_of : List ℕ → End
 ending_of [] = Ok tt
 ending_of (byte ∷ bytes) = Err (Frame Short)
+
+-- how a client ends whose connection failed, that ended so or goes on
+abbrev pub ending_at_failure : Option End → Option End
+ending_at_failure None = Some (Err Device)
+ending_at_failure (Some end) = Some end
 
 abbrev pub state_of_client : List (Key × Call) → ClientOf → ClientState
 state_of_client log client =
@@ -61,3 +67,13 @@ TellsClients opening log old new = (asks : List (Key × Call)) (past : ℕ → P
 -- something is due only to clients of this list
 abbrev pub AreDueWithin : List ℕ → List ClientOf → Type 0
 AreDueWithin list clients = (i : ℕ) → IfSome (slice_get clients i) (λ client. (client.due ≡ 0) ⊎ Contains list i)
+
+-- this many arrivals were taken from the front so far, which have come by now
+pub record TakesSome (opening : Rows) (coming left : Option (List (ℕ × Piece))) (here here_left : Option ℕ) (count : ℕ)
+    (old_log : List (Key × Call)) (old : List ClientOf) (new_log : List (Key × Call)) (new : List ClientOf)
+    : Type 0 where
+  pub arrivals : List (ℕ × Piece)
+  pub count_is : length arrivals ≡ count
+  pub came : TakesFromFront coming left arrivals
+  pub of_them : TakesOfThem count here here_left
+  pub taken : TakesArrivals (IsServing opening) old_log old arrivals new_log new

@@ -8,7 +8,7 @@ ghost use Rattle.sb_calls.specs.declared.ask.Key.{Key as AnyKey};
 ghost use Rattle.sb_calls.specs.declared.call.Call.{Call as AnyCall};
 ghost use Rattle.sb_sequencer.specs.Numbering.{IsLog, first_asks};
 ghost use Rattle.bank_server.specs.AskResults.{LinesGiveStandings, standing_of_answer};
-ghost use Rattle.bank_server.specs.inner.AskSteps.{IsAfterAsks, HasLogNumber, HasStandings, AddsLineAsk, AddsAsk, ExtendsLog};
+ghost use Rattle.bank_server.specs.inner.AskSteps.{IsAfterAsks, HasLogNumber, HasStandings, AddsLineAsk, AddsAsk};
 ghost use Rattle.bank_server.specs.Asks.{key_of_line, running_after};
 ghost use Rattle.bank_server.specs.declared.fault.RunFault.TheVariants.{OutOfMemory};
 ghost use Rattle.bank_server.specs.Faults.{IsTextFaultOf};

@@ -200,8 +200,6 @@ impl<S: CheckpointStore, K: Keeper> Primary<S, K> {
     /// Fails as [`Primary::settle`] does.
     pub(crate) fn offer_rest<C: Crew>(&mut self, crew: &mut C) -> Result<(), SessionFault>
         ensures offered { OnOk result (self.new.node.board.log ≡ log_ops self.new.node.names self.new.log) }
-        // Node 0 is offered the log's entries and exchanges jobs with the crew, whatever the result.
-        ensures turns { TurnsLead (log_ops self.old.node.names self.old.log) self.old.node self.new.node }
         ensures unchanged { self.new ≡ record self.old { node = self.new.node } }
         ensures one_each { IsLog self.new.log }
         // The bank goes on, after a fault too.
@@ -226,12 +224,11 @@ impl<S: CheckpointStore, K: Keeper> Primary<S, K> {
     /// The log stays, and node 0 may have executed more of it then.
     pub fn settle<C: Crew>(&mut self, crew: &mut C) -> Result<(), SessionFault>
         ensures whole_log { OnOk result (HasWholeLog self.new) }
-        // Node 0 is offered the log's entries and exchanges jobs with the crew, whatever the result.
-        ensures turns { TurnsLead (log_ops self.old.node.names self.old.log) self.old.node self.new.node }
         ensures unchanged { self.new ≡ record self.old { node = self.new.node } }
         // It has one number for each key.
         ensures one_each { IsLog self.new.log }
-        // What was kept stays kept, and a crew that keeps no job leaves none out, after a fault too.
+        // What was kept stays kept, node 0 was touched by its turns alone, and a crew that keeps no job
+        // leaves none out, after a fault too.
         ensures serves { ServesOn K.model C.keeps result self.old self.new }
         ensures fault { IfErr result IsSettleFault }
     {

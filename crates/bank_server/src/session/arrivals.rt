@@ -1,6 +1,6 @@
 //! Where what clients send arrives.
 ghost use Rattle.std.specs.Prelude.{◌≡◌, ◌≤◌, ℕ, List, Option, [], ◌∷◌, length, IfNone, IfSome};
-ghost use Rattle.bank_server.specs.Clients.{TakesFromFront, piece_of};
+ghost use Rattle.bank_server.specs.Clients.{OutgoingOf, TakesFromFront, TakesOfThem, piece_of};
 
 /// What came from a client, as one read of its connection.
 #[derive(Clone, Copy, Debug, PartialEq, Eq)]
@@ -16,9 +16,11 @@ pub trait Arrivals {
     /// What is still to come, in order, if that is known: whose piece, and the piece.
     ghost coming: { Self → Option (List (ℕ × Option (List ℕ))) };
 
-    /// What the connections of clients took, in order, if that is known: the place of whose it is, and
-    /// the bytes. Whoever takes arrivals leaves it as it is.
-    ghost sent: { Self → Option (List (ℕ × List ℕ)) };
+    /// How many pieces of that have come by now, if that is known.
+    ghost here: { Self → Option ℕ };
+
+    /// What goes out to clients. Whoever takes arrivals leaves it as it is.
+    ghost outgoing: { Self → OutgoingOf };
 
     /// The next arrival, whose bytes are at the front of the chunk then. `None` if nothing more has
     /// come by now.
@@ -26,6 +28,8 @@ pub trait Arrivals {
         ensures within { IfSome result (λ arrival. IfSome arrival.read (λ count. count ≤ length chunk.new)) }
         ensures next { IfSome result (λ arrival. TakesFromFront (coming self.old) (coming self.new)
             ((arrival.client, piece_of chunk.new arrival.read) ∷ [])) }
-        ensures none { IfNone result (coming self.new ≡ coming self.old) }
-        ensures sent { sent self.new ≡ sent self.old };
+        ensures one { IfSome result (λ arrival. TakesOfThem 1 (here self.old) (here self.new)) }
+        ensures none { IfNone result ((coming self.new ≡ coming self.old)
+            × IfSome (here self.old) (λ count. count ≡ 0)) }
+        ensures outgoing { outgoing self.new ≡ outgoing self.old };
 }

@@ -2,7 +2,7 @@
 ghost use Rattle.std.specs.Prelude.{◌≡◌, ◌≢◌, ◌⊎◌, ◌≤◌, ◌<◌, length, drop, None, Some, Err, false, true, is_some, IfOk, IfSome, OnErr, OnOk};
 ghost use Rattle.bank_server.specs.AskCounts.{counts_since};
 ghost use Rattle.bank_server.specs.Clients.{IsSound, fresh_client, piece_of};
-ghost use Rattle.bank_server.specs.inner.ClientTurns.{HearsClient, TellsClient, ending_of};
+ghost use Rattle.bank_server.specs.inner.ClientTurns.{HearsClient, TellsClient, ending_at_failure, ending_of};
 ghost use Rattle.bank_server.specs.inner.CountedAsks.{AddsCounts};
 ghost use Rattle.bank_server.specs.Primary.{HasWholeLog, opening_rows_of};
 ghost use Rattle.bank_server.specs.inner.NumberedAsks.{NumbersAsks};
@@ -29,6 +29,8 @@ pub(crate) struct Client {
     counts: AskCounts,
     // How it ended.
     ending: Option<Result<(), SessionFault>>,
+    // Whether its connection failed, be it after its end.
+    broken: bool,
 }
 
 impl Model for Client {
@@ -37,7 +39,7 @@ impl Model for Client {
 
     ghost Value = { ClientOf };
 
-    ghost view = { λ c. client_of c.inbox c.outcomes.items c.counts c.ending };
+    ghost view = { λ c. client_of c.inbox c.outcomes.items c.counts c.ending c.broken };
 }
 
 impl Client {
@@ -50,6 +52,7 @@ impl Client {
             outcomes: Vec::new(alloc),
             counts: AskCounts::new(),
             ending: None,
+            broken: false,
         }
     }
 
@@ -72,6 +75,13 @@ impl Client {
         ensures { result ≡ self.now.ending }
     {
         self.ending
+    }
+
+    /// Whether its connection failed, be it after its end.
+    pub(crate) fn is_broken(&self) -> bool
+        ensures { result ≡ self.now.broken }
+    {
+        self.broken
     }
 
     /// Whether something is due to it.
@@ -99,7 +109,7 @@ impl Client {
 
 /// Takes a piece of what comes from a client: its bytes at the front of a chunk, its end, or that
 /// its connection failed. At a fault of its own it ends; nobody else notices. Of a client that has
-/// ended nothing is taken.
+/// ended nothing is taken but this failure.
 ///
 /// Fails if memory is refused.
 pub(crate) fn hear<S: CheckpointStore, K: Keeper>(
@@ -121,20 +131,26 @@ pub(crate) fn hear<S: CheckpointStore, K: Keeper>(
     ensures over { is_some client.old.ending ≡ true → client.new.ending ≡ client.old.ending }
     ensures numbered { NumbersAsks K.model primary.old primary.new }
 {
-    if client.ending.is_some() {
-        return Ok(());
-    }
     match read {
         None => {
-            client.ending = Some(Err(SessionFault::Device));
+            hear_failure(client);
             Ok(())
         }
+        Some(_) if client.has_ended() => Ok(()),
         Some(0) => {
             hear_end(client);
             Ok(())
         }
         Some(count) => hear_bytes(&chunk[..count], client, primary),
     }
+}
+
+// The connection of a client failed, which ends it unless it has ended.
+fn hear_failure(client: &mut Client)
+    ensures { client.new ≡ record client.old { ending = ending_at_failure client.old.ending; broken = true } }
+{
+    client.broken = true;
+    client.ending = client.ending.or(Some(Err(SessionFault::Device)));
 }
 
 // Takes the end of a client, which comes behind a whole frame or not.

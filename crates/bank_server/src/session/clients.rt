@@ -9,7 +9,7 @@ ghost use Rattle.bank_server.specs.SessionFaults.{IsSettleFault, IsTurnFault};
 use super::READ_BYTES;
 use super::arrivals::Arrivals;
 use super::client::Client;
-use super::places::{add_client, replace_client, take_sent};
+use super::places::{add_client, take_sent, vacate_place};
 use super::session_fault::SessionFault;
 use super::telling::settle_and_keep;
 use super::turns::{take_arrivals, tell_all};
@@ -20,8 +20,8 @@ use sb_checkpoint::CheckpointStore;
 use std::alloc::{AllocError, Global};
 use std::marker::Model;
 
-/// Clients who are served at once, turn by turn, each at its place. Clients join and leave between
-/// turns.
+/// Clients who are served at once, turn by turn, each at its place. Between two turns one that is
+/// served to its end can leave, and another one has the place then.
 #[derive(Drop)]
 pub struct Clients {
     alloc: Global,
@@ -72,7 +72,7 @@ impl Clients {
         self.all.is_empty()
     }
 
-    /// A client joins at a new place, behind the others, and has this place from then on.
+    /// A new place for clients, behind the others.
     ///
     /// Fails if memory is refused; nothing changes then.
     pub fn join(&mut self) -> Result<usize, AllocError>
@@ -86,15 +86,15 @@ impl Clients {
         add_client(self.alloc, &mut self.all)
     }
 
-    /// A client joins at the place of one that has left.
-    pub fn replace(&mut self, place: usize)
+    /// The client at a place has left, and the place is as one that nothing came from.
+    pub fn vacate(&mut self, place: usize)
         requires { place < length self.old.all }
-        ensures joined { self.new ≡ record self.old { all = slice_set self.old.all place fresh_client } }
+        ensures vacated { self.new ≡ record self.old { all = slice_set self.old.all place fresh_client } }
         ensures ready { StaysReady self.old.all self.new.all }
         // It has no past.
         ensures served { StaysServed (past_with place no_past) self.old.all self.new.all }
     {
-        replace_client(self.alloc, &mut self.all, place);
+        vacate_place(self.alloc, &mut self.all, place);
     }
 
     /// The places of those whom the last turn told something, or who ended in it.
@@ -118,6 +118,14 @@ impl Clients {
         ensures { IfSome (slice_get self.now.all place) (λ client. result ≡ client.ending) }
     {
         self.all[place].ending()
+    }
+
+    /// Whether the connection of a client failed, be it after its end.
+    pub fn is_broken(&self, place: usize) -> bool
+        requires { place < length self.now.all }
+        ensures { IfSome (slice_get self.now.all place) (λ client. result ≡ client.broken) }
+    {
+        self.all[place].is_broken()
     }
 
     /// How many asks a client had.
@@ -161,11 +169,12 @@ impl Clients {
     ) -> Result<(), SessionFault>
         requires ready { All (λ client. IsReady (length primary.old.log) client) self.old.all }
         ensures ready { OnOk result (All (λ client. IsReady (length primary.new.log) client) self.new.all) }
-        // The log is that of all asks taken, and each client was given exactly the outcomes of its own.
+        // What has come is taken, at most a piece for each place. The log is that of all asks taken, and
+        // each client was given exactly the outcomes of its own.
         ensures served { OnOk result (ServesTurn (IsServed (opening_rows_of primary.old)) (A.coming arrivals.old)
-            (A.coming arrivals.new) primary.old.log self.old.all primary.new.log self.new.all) }
+            (A.coming arrivals.new) (A.here arrivals.old) primary.old.log self.old.all primary.new.log self.new.all) }
         // The whole log is kept, unless nobody was told anything and nobody ended.
-        ensures leaves { TurnLeaves result (A.sent arrivals.old) (A.sent arrivals.new)
+        ensures leaves { TurnLeaves result (A.outgoing arrivals.old) (A.outgoing arrivals.new)
             (K.model.Keeps primary.new.keeper primary.new.log) self.old.all self.new }
         // What was kept stays kept, and a crew that keeps no job leaves none out, after a fault too.
         ensures serves { ServesOn K.model C.keeps result primary.old primary.new }
@@ -204,8 +213,8 @@ fn serve_turn<A: Arrivals, S: CheckpointStore, K: Keeper, C: Crew>(
     requires ready { All (λ client. IsReady (length primary.old.log) client) clients.old }
     ensures ready { OnOk result (All (λ client. IsReady (length primary.new.log) client) clients.new) }
     ensures served { OnOk result (ServesTurn (IsServed (opening_rows_of primary.old)) (A.coming arrivals.old)
-        (A.coming arrivals.new) primary.old.log clients.old primary.new.log clients.new) }
-    ensures sent { A.sent arrivals.new ≡ A.sent arrivals.old }
+        (A.coming arrivals.new) (A.here arrivals.old) primary.old.log clients.old primary.new.log clients.new) }
+    ensures outgoing { A.outgoing arrivals.new ≡ A.outgoing arrivals.old }
     ensures as_many { length clients.new ≡ length clients.old }
     ensures kept { OnOk result (K.model.Keeps primary.new.keeper primary.new.log ⊎ (stirred.new.items ≡ [])) }
     ensures calm { OnOk result (AreCalmBut stirred.new.items clients.old clients.new) }

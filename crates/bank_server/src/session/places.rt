@@ -1,11 +1,11 @@
-//! The places of clients: who joins, and what their connections take.
+//! The places of clients: new ones, those that are left, and what connections take.
 ghost use Rattle.std.specs.Prelude.{◌≡◌, ◌≤◌, ◌<◌, ◌∷◌, ◌++◌, [], drop, length, take, IfOk, IfSome, OnErr, OnOk, slice_get, slice_set};
 ghost use Rattle.bank_server.specs.Clients.{StaysReady, StaysServed, fresh_client, no_past, past_with, sends};
 
 use super::client::Client;
 use std::alloc::{AllocError, Global};
 
-/// A client joins at a new place, behind the others.
+/// A new place, behind the others.
 ///
 /// Fails if memory is refused; nothing changes then.
 pub(crate) fn add_client(alloc: Global, all: &mut Vec<Client>) -> Result<usize, AllocError>
@@ -20,10 +20,10 @@ pub(crate) fn add_client(alloc: Global, all: &mut Vec<Client>) -> Result<usize, 
     Ok(place)
 }
 
-/// A client joins at the place of one that has left.
-pub(crate) fn replace_client(alloc: Global, all: &mut [Client], place: usize)
+/// The client at a place has left.
+pub(crate) fn vacate_place(alloc: Global, all: &mut [Client], place: usize)
     requires { place < length all.old }
-    ensures joined { all.new ≡ slice_set all.old place fresh_client }
+    ensures vacated { all.new ≡ slice_set all.old place fresh_client }
     ensures ready { StaysReady all.old all.new }
     ensures served { StaysServed (past_with place no_past) all.old all.new }
 {

@@ -29,10 +29,10 @@ pub(crate) fn take_arrivals<A: Arrivals, S: CheckpointStore, K: Keeper>(
     requires sound { All (λ client. IsSound (length primary.old.log) client) clients.old }
     ensures sound { OnOk result (All (λ client. IsSound (length primary.new.log) client) clients.new) }
     ensures taken { OnOk result (ServesTurn (IsServing (opening_rows_of primary.old)) (A.coming arrivals.old)
-        (A.coming arrivals.new) primary.old.log clients.old primary.new.log clients.new) }
+        (A.coming arrivals.new) (A.here arrivals.old) primary.old.log clients.old primary.new.log clients.new) }
     ensures there { All (λ k. k < length clients.new) stirred.new.items }
     ensures calm { OnOk result (AreCalmBut stirred.new.items clients.old clients.new) }
-    ensures sent { A.sent arrivals.new ≡ A.sent arrivals.old }
+    ensures outgoing { A.outgoing arrivals.new ≡ A.outgoing arrivals.old }
     ensures as_many { length clients.new ≡ length clients.old }
     ensures numbered { NumbersAsks K.model primary.old primary.new }
 {

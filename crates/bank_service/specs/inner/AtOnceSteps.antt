@@ -22,8 +22,9 @@ pub record StaysBank {S K : Type 0} (model : StoreModel S) (keeper : KeeperModel
 pub record ServesOver {S K : Type 0} (model : StoreModel S) (keeper : KeeperModel K) (saves : Bool)
     (number : ℕ) (outside outside_after : OutsideOf) (clients clients_after : List ClientOf)
     (before after : PrimaryOf S K) (old new : Option (List ℕ)) : Type 0 where
-  pub goes_on : GoesOn (opening_rows_of before) outside before.log clients outside_after after.log clients_after
   pub end : End
+  pub goes_on : GoesOn (opening_rows_of before) outside before.log clients (end ∷ []) outside_after after.log
+      clients_after
   pub continues : ServerContinues end
   pub printed : PrintsLines (session_line number end ∷ []) old new
   pub stays : StaysBank model keeper saves before after
@@ -32,8 +33,8 @@ pub record ServesOver {S K : Type 0} (model : StoreModel S) (keeper : KeeperMode
 pub record ServesSome {S K : Type 0} (model : StoreModel S) (keeper : KeeperModel K) (saves : Bool)
     (count : ℕ) (outside outside_after : OutsideOf) (clients clients_after : List ClientOf)
     (before after : PrimaryOf S K) (old new : Option (List ℕ)) : Type 0 where
-  pub goes_on : GoesOn (opening_rows_of before) outside before.log clients outside_after after.log clients_after
   pub ends : List End
+  pub goes_on : GoesOn (opening_rows_of before) outside before.log clients ends outside_after after.log clients_after
   pub all : length ends ≡ count
   pub go_on : All ServerContinues ends
   pub printed : PrintsLines (session_lines 1 ends) old new

@@ -2,7 +2,7 @@
 ghost use Rattle.std.specs.Prelude.{◌≡◌, true, IfSome, map, string_bytes};
 ghost use Rattle.std.specs.Net.Socket.{socket_ip, socket_port};
 ghost use Rattle.program_words.specs.Words.{GivesAddress, GivesStore, IsPlanInRange, WritesAddress};
-ghost use Rattle.program_words.specs.Words.{may_be_endless, usual_sessions};
+ghost use Rattle.program_words.specs.Words.{HasIntegerOrUsual, may_be_endless, usual_sessions, usual_with_log};
 ghost use Rattle.program_words.specs.inner.WordValues.{IsPlanOf, IsServeOf};
 
 use crate::address::here;
@@ -26,6 +26,12 @@ pub struct ServeWords<'a> {
 
 // How many sessions a bank that is served without end has: more than any machine can.
 const ENDLESS: usize = usize::MAX;
+
+// How many clients a bank with a log serves at once, and how many seconds each may be silent, unless the
+// words say it: so none holds up the others.
+const CLIENTS_OF_LOG: usize = 100;
+
+const PATIENCE_OF_LOG: usize = 60;
 
 /// How a bank is served, by the words after `serve`.
 pub(super) fn serve_words<'a>(options: &'a [String]) -> Option<ServeWords<'a>>
@@ -88,7 +94,7 @@ fn store_of<'a>(options: &'a [String]) -> (bool, &'a str)
 fn plan_of(options: &[String], host: IpAddr, saves: bool, logs: bool) -> Option<Plan>
     ensures { IfSome result (λ plan. IsPlanOf options.now host saves logs plan) }
 {
-    let clients = parse_optional(options, "--clients")?;
+    let clients = parse_or_usual(options, "--clients", logs, CLIENTS_OF_LOG)?;
     let usual = usual_sessions(may_be_endless(logs, clients));
     let plan = Plan {
         host,
@@ -97,13 +103,31 @@ fn plan_of(options: &[String], host: IpAddr, saves: bool, logs: bool) -> Option<
         nodes: parse_count(options, "--nodes", 1)?,
         workers: parse_count(options, "--workers", 0)?,
         saves,
-        patience: parse_optional(options, "--patience")?,
+        patience: parse_or_usual(options, "--patience", logs, PATIENCE_OF_LOG)?,
         is_quiet: has_word(options, "--quiet"),
     };
     if is_in_range(&plan, logs) {
         Some(plan)
     } else {
         None
+    }
+}
+
+// The number that an option has, or if it has none this one of a bank that keeps a log. `None` if its
+// value isn't a number.
+fn parse_or_usual(
+    options: &[String],
+    option: &str,
+    logs: bool,
+    number: usize,
+) -> Option<Option<usize>>
+    ensures { IfSome result (λ given. HasIntegerOrUsual option.now (usual_with_log logs number) given
+        (map string_bytes options.now)) }
+{
+    match parse_optional(options, option)? {
+        Some(given) => Some(Some(given)),
+        None if logs => Some(Some(number)),
+        None => Some(None),
     }
 }
 

@@ -11,6 +11,6 @@ with_team-requires-clause-ready g c κs within =
     let clients = server.sessions.clients.all in
     let log = server.primary.log in (
       no_entries_none_out server.primary.node.board c.requires.opened,
-      begins_ready (length log) clients c.requires.fresh,
+      begins_ready g.A.Arrivals.outgoing g.A.Connections.writable_places (length log) server.sessions c.requires.fresh,
       (first_history log, begins_served (opening_rows_of server.primary) log clients c.node-node.ensures.valid.log c.requires.fresh),
     )

@@ -1,22 +1,23 @@
-use Rattle.std.proofs.Common.{List, ap, length, subst, sym}
-use Rattle.std.specs.List.{All}
+use Rattle.std.proofs.Common.{◌≡◌, false, [], Ok, Err, length, subst, sym, ap, ◌∙◌}
+use Rattle.std.specs.Prelude.{Result, OnOk, is_err}
+use Rattle.std.proofs.lemmas.Bool.{false≢true}
 use Rattle.std.proofs.lemmas.Result.{err_from_is_err_and}
-use Rattle.bank_server.specs.Clients.{ClientOf, IsReady}
+use Rattle.bank_server.specs.Clients.{OutgoingOf}
 use Rattle.bank_server.specs.Primary.{opening_rows_of}
 use Rattle.bank_server.proofs.sessions.Serving.{keep_serves, serves_behind, serves_kept}
 use Rattle.bank_clients.specs.History.{GoesOn}
-use Rattle.bank_clients.specs.Sessions.{SessionsOf, outside_of}
+use Rattle.bank_clients.specs.Sessions.{AreReady, AreSentBut, SessionsOf, outside_of}
+use Rattle.bank_clients.proofs.Deliveries.{sent_among, sent_before_turn}
 use Rattle.bank_clients.proofs.Histories.{round_goes_on}
+use Rattle.bank_clients.proofs.Leaving.{ended_in_round}
 use Rattle.bank_clients.proofs.sessions.Sessions.serve.Goals as goal
 
 pub turn-requires : goal.turn-requires
 turn-requires g c =
     let calls = length c.args.primary.now.log in
-    record {
-      ready = c.admit_all.ensures.ready calls
-          (subst (λ (l : List ClientOf). All (λ client. IsReady calls client) l) (sym (ap (λ (s : SessionsOf g.row.A.Denot). s.clients.all) c.self.view_is))
-          c.requires.ready);
-    }
+    let before = subst (λ (s : SessionsOf g.row.A.Denot). AreReady g.A.Arrivals.outgoing g.A.Connections.writable_places calls s) (sym c.self.view_is)
+    c.requires.ready in
+    record { ready = c.deliver_rest.ensures.ready calls before.ready }
 
 pub returns-in_err-keep-clause-serves : goal.returns-in_err-keep-clause-serves
 returns-in_err-keep-clause-serves g c =
@@ -32,20 +33,49 @@ returns-then-is_err-clause-serves g c =
     c.keep.ensures.unchanged in
     record { bank = step.bank; none_out = step.none_out; crew_lost = tt; log_lost = tt }
 
+pub list_leaving-requires : goal.list_leaving-requires
+list_leaving-requires g c =
+    let before = subst (λ (s : SessionsOf g.row.A.Denot).
+    AreReady g.A.Arrivals.outgoing g.A.Connections.writable_places (length c.args.primary.now.log) s) (sym c.self.view_is) c.requires.ready in
+    ended_in_round c.self.inside.leaving.items c.turn.new.self.stirred c.deliver_new.new.clients.stirred c.self.inside.clients.all
+    c.deliver_rest.new.clients.all c.turn.new.self.all c.deliver_new.new.clients.all before.listed c.deliver_rest.ensures.endings
+    c.in_ok-turn.ensures.leaves.calm c.deliver_new.ensures.endings c.deliver_new.ensures.stirred
+
+if_ok : {E P : Type 0} (result : Result (Unit {0}) E) → is_err result ≡ false → OnOk result P → P
+if_ok (Ok done) fine h = h
+if_ok (Err fault) fine h = absurd (false≢true (sym fine))
+
 pub returns-clause-ready : goal.returns-clause-ready
 returns-clause-ready g c =
-    let calls = length c.turn.new.primary.log in
-    c.deliver_rest.ensures.ready calls (c.deliver_new.ensures.ready calls c.in_ok-turn.ensures.ready)
+    let before = subst (λ (s : SessionsOf g.row.A.Denot). AreReady g.A.Arrivals.outgoing g.A.Connections.writable_places (length c.args.primary.now.log) s)
+    (sym c.self.view_is) c.requires.ready in
+    let stirred = c.turn.new.self.stirred in
+    let last = c.deliver_new.new in
+    let rested : AreSentBut (g.A.Arrivals.outgoing c.deliver_rest.new.connections).full [] c.deliver_rest.new.clients.all =
+    c.deliver_rest.ensures.sent before.sent in
+    let turned : AreSentBut (g.A.Arrivals.outgoing c.turn.new.arrivals).full stirred c.turn.new.self.all =
+    subst (λ (o : OutgoingOf). AreSentBut o.full stirred c.turn.new.self.all) (sym c.turn.ensures.leaves.outgoing)
+    (sent_before_turn (g.A.Arrivals.outgoing c.deliver_rest.new.connections).full stirred c.deliver_rest.new.clients.all c.turn.new.self.all rested
+    c.in_ok-turn.ensures.leaves.calm) in
+    let told : AreSentBut (g.A.Arrivals.outgoing last.connections).full [] last.clients.all = c.deliver_new.ensures.sent turned in (
+      record {
+        ready = c.deliver_new.ensures.ready (length c.turn.new.primary.log) c.in_ok-turn.ensures.ready;
+        listed = if_ok c.list_leaving.result (sym c.is_err.ensures.value ∙ c.if-is_err.false) c.list_leaving.ensures;
+        sent = sent_among (g.A.Arrivals.outgoing last.connections).full (g.A.Connections.writable_places last.connections) last.clients.all told;
+      },
+      told,
+    )
 
 pub returns-clause-served : goal.returns-clause-served
 returns-clause-served g c =
-    let outside = outside_of g.A.Arrivals.coming g.A.Arrivals.sent in
+    let outside = outside_of g.A.Arrivals.coming g.A.Arrivals.outgoing in
     let opening = opening_rows_of c.args.primary.now in
     let inside = c.self.inside in
-    let last = c.deliver_rest.new in
-    subst (λ (s : SessionsOf g.row.A.Denot). GoesOn opening (outside s.connections) c.args.primary.now.log s.clients.all (outside last.connections)
+    let last = c.deliver_new.new in
+    subst (λ (s : SessionsOf g.row.A.Denot). GoesOn opening (outside s.connections) c.args.primary.now.log s.clients.all [] (outside last.connections)
     c.turn.new.primary.log last.clients.all) c.self.view_is
-    (round_goes_on opening (outside inside.connections) (outside c.admit_all.new.connections) (outside c.turn.new.arrivals)
-    (outside c.deliver_new.new.connections) (outside last.connections) c.args.primary.now.log c.turn.new.primary.log
-    inside.clients.all c.admit_all.new.clients.all c.turn.new.self.all c.deliver_new.new.clients.all last.clients.all
-    c.admit_all.ensures.joined c.turn.ensures.leaves.sent c.in_ok-turn.ensures.served c.deliver_new.ensures.sent c.deliver_rest.ensures.sent)
+    (round_goes_on opening (outside inside.connections) (outside c.deliver_rest.new.connections) (outside c.turn.new.arrivals)
+    (outside last.connections) (g.A.Arrivals.here c.deliver_rest.new.connections) c.args.primary.now.log c.turn.new.primary.log
+    inside.clients.all c.deliver_rest.new.clients.all c.turn.new.self.all last.clients.all
+    c.deliver_rest.ensures.stands (ap (λ (o : OutgoingOf). o.sent) c.turn.ensures.leaves.outgoing) c.in_ok-turn.ensures.served
+    c.deliver_new.ensures.stands)

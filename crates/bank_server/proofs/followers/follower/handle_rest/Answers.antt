@@ -1,6 +1,5 @@
-use Rattle.std.proofs.Common.{[], ◌∷◌, ◌++◌, refl, subst, sym}
+use Rattle.std.proofs.Common.{[], ◌∷◌, ◌++◌, refl}
 use Rattle.sb_checkpoint.specs.declared.memory_store.MemoryStore.{MemoryStore}
-use Rattle.sb_frames.specs.Streaming.{IsShort}
 use Rattle.bank_server.specs.FollowerTurns.{FollowerOf, Takes, Runs}
 use Rattle.bank_server.proofs.boards.FollowerTurns.{short_after, turn_after}
 use Rattle.bank_server.proofs.followers.follower.handle_rest.Goals as goal

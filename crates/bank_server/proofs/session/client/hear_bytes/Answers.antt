@@ -12,15 +12,15 @@ pub returns-in-Ok-clause-heard : goal.returns-in-Ok-clause-heard
 returns-in-Ok-clause-heard g c =
     let inside = c.client.inside in
     let now = c.take_bytes-taken.new.inbox in
-    let old = client_of inside.inbox inside.outcomes.items inside.counts inside.ending in
-    let new = client_of now inside.outcomes.items c.add.new.self inside.ending in
+    let old = client_of inside.inbox inside.outcomes.items inside.counts inside.ending inside.broken in
+    let new = client_of now inside.outcomes.items c.add.new.self inside.ending inside.broken in
     let same : old ≡ c.args.client.now = c.client.view_is in
     let on : old.ending ≡ None = ap (λ (x : ClientOf). x.ending) same ∙ c.requires.on in
     subst (λ (x : ClientOf). HearsClient (opening_rows_of c.args.primary.now) c.args.primary.now.log x (Some c.args.bytes.now)
     c.take_bytes-taken.new.primary.log new)
     same
     (hears_well (opening_rows_of c.args.primary.now) c.args.primary.now.log old c.args.bytes.now c.take_bytes-taken.new.primary.log new
-    (none_on old.ending on) (has_bytes c.args.bytes.now c.requires.some) refl c.in-Ok.ensures.short (c.in-Ok.ensures.handles inside.outcomes.items))
+    (none_on old.ending on) (has_bytes c.args.bytes.now c.requires.some) refl refl c.in-Ok.ensures.short (c.in-Ok.ensures.handles inside.outcomes.items))
 
 pub returns-in_ok-own_fault-in-Err-clause-heard : goal.returns-in_ok-own_fault-in-Err-clause-heard
 returns-in_ok-own_fault-in-Err-clause-heard g c =
@@ -29,13 +29,13 @@ returns-in_ok-own_fault-in-Err-clause-heard g c =
     let now = c.take_bytes-taken.new.inbox in
     let own = c.in_ok-own_fault-in-Err.field-0 in
     let why = c.in_ok-own_fault-in-Err.ensures.own in
-    let old = client_of inside.inbox inside.outcomes.items inside.counts inside.ending in
-    let new = client_of now inside.outcomes.items c.add.new.self (Some (Err own)) in
+    let old = client_of inside.inbox inside.outcomes.items inside.counts inside.ending inside.broken in
+    let new = client_of now inside.outcomes.items c.add.new.self (Some (Err own)) inside.broken in
     let same : old ≡ c.args.client.now = c.client.view_is in
     let on : old.ending ≡ None = ap (λ (x : ClientOf). x.ending) same ∙ c.requires.on in
     subst (λ (x : ClientOf). HearsClient opening c.args.primary.now.log x (Some c.args.bytes.now) c.take_bytes-taken.new.primary.log new) same
     (hears_fault opening c.args.primary.now.log old c.args.bytes.now c.take_bytes-taken.new.primary.log new own
-    (none_on old.ending on) (has_bytes c.args.bytes.now c.requires.some) refl (λ short. why.1 (sym why.0 ∙ short))
+    (none_on old.ending on) (has_bytes c.args.bytes.now c.requires.some) refl refl (λ short. why.1 (sym why.0 ∙ short))
     (subst (λ (fault : SessionFault). StopsClient opening ASKS_BEFORE_FLUSH (state_of_client c.args.primary.now.log old)
     (old.stream.unread ++ c.args.bytes.now) fault (state_of_client c.take_bytes-taken.new.primary.log new)) (sym why.0)
     (c.in-Err.ensures.stops inside.outcomes.items)))

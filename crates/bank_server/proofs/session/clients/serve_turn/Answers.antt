@@ -26,12 +26,13 @@ returns-then-is_empty-clause-served g c =
     let none_due : (i : ℕ) → IfSome (slice_get mid.clients i) (λ x. x.due ≡ 0) =
     none_due_now mid.clients (subst (λ (l : List ℕ). AreDueWithin l mid.clients) none
     (due_within mid.stirred.items c.args.clients.now mid.clients took.calm)) in
-    let turn : ServesTurn (IsServed opening) (g.A.Arrivals.coming c.args.arrivals.now) (g.A.Arrivals.coming mid.arrivals) old.log c.args.clients.now
-    mid.primary.log mid.clients =
-    turn_served opening (g.A.Arrivals.coming c.args.arrivals.now) (g.A.Arrivals.coming mid.arrivals) old.log c.args.clients.now mid.primary.log mid.clients
-    mid.clients took.taken (λ asks past are. are) none_due refl in
-    ok_always c.offer_rest.result (subst (λ (l : List (Key × Call)). ServesTurn (IsServed opening) (g.A.Arrivals.coming c.args.arrivals.now)
-    (g.A.Arrivals.coming mid.arrivals) old.log c.args.clients.now l mid.clients) (sym (ap (λ p. p.log) c.offer_rest.ensures.unchanged)) turn)
+    let coming = g.A.Arrivals.coming c.args.arrivals.now in
+    let left = g.A.Arrivals.coming mid.arrivals in
+    let here = g.A.Arrivals.here c.args.arrivals.now in
+    let turn : ServesTurn (IsServed opening) coming left here old.log c.args.clients.now mid.primary.log mid.clients =
+    turn_served opening coming left here old.log c.args.clients.now mid.primary.log mid.clients mid.clients took.taken (λ asks past are. are) none_due refl in
+    ok_always c.offer_rest.result (subst (λ (l : List (Key × Call)). ServesTurn (IsServed opening) coming left here old.log c.args.clients.now l mid.clients)
+    (sym (ap (λ p. p.log) c.offer_rest.ensures.unchanged)) turn)
 
 pub returns-in_err-take_arrivals-clause-serves : goal.returns-in_err-take_arrivals-clause-serves
 returns-in_err-take_arrivals-clause-serves g c =
@@ -84,11 +85,13 @@ returns-clause-served g c =
     let told = c.in_ok-tell_all.ensures in
     let bank : PreservesBank g.K.Keeper.model old new =
     keeps_on old mid.primary new c.take_arrivals.ensures.numbered.bank c.settle_and_keep.ensures.serves.bank in
-    let turn : ServesTurn (IsServing opening) (g.A.Arrivals.coming c.args.arrivals.now) (g.A.Arrivals.coming mid.arrivals) old.log c.args.clients.now
-    new.log mid.clients =
-    subst (λ (l : List (Key × Call)). ServesTurn (IsServing opening) (g.A.Arrivals.coming c.args.arrivals.now) (g.A.Arrivals.coming mid.arrivals) old.log
-    c.args.clients.now l mid.clients) (sym c.settle_and_keep.ensures.log) c.in_ok-take_arrivals.ensures.taken in
+    let coming = g.A.Arrivals.coming c.args.arrivals.now in
+    let left = g.A.Arrivals.coming mid.arrivals in
+    let here = g.A.Arrivals.here c.args.arrivals.now in
+    let turn : ServesTurn (IsServing opening) coming left here old.log c.args.clients.now new.log mid.clients =
+    subst (λ (l : List (Key × Call)). ServesTurn (IsServing opening) coming left here old.log c.args.clients.now l mid.clients)
+    (sym c.settle_and_keep.ensures.log) c.in_ok-take_arrivals.ensures.taken in
     let tells : TellsClients opening new.log mid.clients c.tell_all.new.clients =
     subst (λ (rows : Rows). TellsClients rows new.log mid.clients c.tell_all.new.clients) (same_opening old new bank) told.told in
-    turn_served opening (g.A.Arrivals.coming c.args.arrivals.now) (g.A.Arrivals.coming mid.arrivals) old.log c.args.clients.now new.log mid.clients
-    c.tell_all.new.clients turn tells (none_due_now c.tell_all.new.clients told.none_due) c.tell_all.ensures.as_many
+    turn_served opening coming left here old.log c.args.clients.now new.log mid.clients c.tell_all.new.clients turn tells
+    (none_due_now c.tell_all.new.clients told.none_due) c.tell_all.ensures.as_many

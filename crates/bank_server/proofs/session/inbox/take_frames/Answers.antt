@@ -70,3 +70,8 @@ returns-in_err-take_frame-in-Ok-Some-clause-stops g c =
     (inbox_state c.take_frame.new.primary.log c.take_frame.new.inbox outcomes) c.args.inbox.now.stream.unread loop.inbox.stream.unread
     c.next.new.self.unread c.in-Ok-Some.frame handed.spelled.0 c.in_err-take_frame-in-Ok-Some.field-0.0 (loop.invariant.handles outcomes) handed.spelled.1
     handed.spelled.2 (c.in_err-take_frame-in-Ok-Some.ensures.refused outcomes))
+
+pub returns-in_err-take_frame-in-Ok-Some-clause-numbered : goal.returns-in_err-take_frame-in-Ok-Some-clause-numbered
+returns-in_err-take_frame-in-Ok-Some-clause-numbered g c =
+    numbers_on c.args.primary.now c.loop-frame.primary c.take_frame.new.primary c.loop-frame.invariant.numbered
+    c.in_err-take_frame-in-Ok-Some.ensures.numbered

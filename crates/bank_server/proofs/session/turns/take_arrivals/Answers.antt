@@ -14,11 +14,12 @@ use Rattle.bank_server.proofs.session.turns.take_arrivals.Goals as goal
 pub loop-init : goal.loop-init
 loop-init g c = record {
   sound = c.requires.sound;
-  taken = turn_begins (opening_rows_of c.args.primary.now) (g.A.Arrivals.coming c.args.arrivals.now) c.args.primary.now.log c.args.clients.now;
+  taken = turn_begins (opening_rows_of c.args.primary.now) (g.A.Arrivals.coming c.args.arrivals.now) (g.A.Arrivals.here c.args.arrivals.now)
+      c.args.primary.now.log c.args.clients.now;
   there = subst (λ (l : List ℕ). All (λ k. k < length c.args.clients.now) l) (sym c.requires.none) (All-nil (λ (k : ℕ). k < length c.args.clients.now));
   calm = subst (λ (l : List ℕ). AreCalmBut l c.args.clients.now c.args.clients.now) (sym c.requires.none)
       (calm_at_first c.args.clients.now c.requires.none_due);
-  sent = refl;
+  outgoing = refl;
   as_many = refl;
   numbered = numbers_nothing c.args.primary.now;
 }
@@ -36,11 +37,12 @@ loop-preserved g c =
     record {
       sound = step.sound;
       taken = turn_on (opening_rows_of c.args.primary.now) (g.A.Arrivals.coming c.args.arrivals.now) (g.A.Arrivals.coming loop.arrivals)
-          (g.A.Arrivals.coming c.next.new.self) c.args.primary.now.log c.args.clients.now loop.primary.log loop.clients new.primary.log new.clients arrival
-          step.as_many kept.taken c.in-Some.ensures.next one;
+          (g.A.Arrivals.coming c.next.new.self) (g.A.Arrivals.here c.args.arrivals.now) (g.A.Arrivals.here loop.arrivals)
+          (g.A.Arrivals.here c.next.new.self) loop.counter c.args.primary.now.log c.args.clients.now loop.primary.log loop.clients new.primary.log
+          new.clients arrival step.as_many kept.taken c.in-Some.ensures.next c.in-Some.ensures.one one;
       there = step.there;
       calm = step.calm c.args.clients.now kept.calm;
-      sent = c.next.ensures.sent ∙ kept.sent;
+      outgoing = c.next.ensures.outgoing ∙ kept.outgoing;
       as_many = step.as_many ∙ kept.as_many;
       numbered = numbers_on c.args.primary.now loop.primary new.primary kept.numbered step.numbered;
     }

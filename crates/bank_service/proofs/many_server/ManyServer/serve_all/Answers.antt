@@ -8,7 +8,7 @@ use Rattle.bank_service.proofs.many_server.ManyServer.serve_all.Goals as goal
 pub loop-before-init : goal.loop-before-init
 loop-before-init g c = record {
   some = some_at_first g.S.CheckpointStore.model g.K.Keeper.model c.args.self.now.plan.saves
-      (outside_of g.A.Arrivals.coming g.A.Arrivals.sent c.args.self.now.sessions.connections) c.args.self.now.sessions.clients.all c.args.self.now.primary
+      (outside_of g.A.Arrivals.coming g.A.Arrivals.outgoing c.args.self.now.sessions.connections) c.args.self.now.sessions.clients.all c.args.self.now.primary
       (g.W.Write.contents c.args.self.now.writer);
   within = omega arith;
   ready = c.requires.ready;
@@ -19,7 +19,7 @@ loop-before-init g c = record {
 
 pub loop-before-preserved : goal.loop-before-preserved
 loop-before-preserved g c =
-    let outside = outside_of g.A.Arrivals.coming g.A.Arrivals.sent in
+    let outside = outside_of g.A.Arrivals.coming g.A.Arrivals.outgoing in
     let model = g.S.CheckpointStore.model in
     let keeper = g.K.Keeper.model in
     let kept = c.loop-before.invariant in

@@ -1,24 +1,22 @@
-use Rattle.std.proofs.Common.{◌≡◌, ◌∙◌, ℕ, ap, false, refl, subst}
+use Rattle.std.proofs.Common.{◌≡◌, ◌∙◌, ℕ, [], false, refl, subst}
 use Rattle.cown_workers.specs.Draining.{HasNoneOut}
 use Rattle.std.proofs.lemmas.Result.{err_from_is_err_and, on_ok_weaker}
 use Rattle.bank_server.proofs.boards.Boards.{idle_none_out}
 use Rattle.bank_server.proofs.boards.WholeReplies.{if_err}
-use Rattle.bank_server.specs.Clients.{ClientsOf}
 use Rattle.bank_server.specs.Primary.{opening_rows_of}
-use Rattle.bank_clients.specs.History.{GoesOn}
-use Rattle.bank_clients.specs.Sessions.{SessionsOf, outside_of}
+use Rattle.bank_clients.specs.Sessions.{outside_of}
 use Rattle.bank_service.specs.ServeFaults.{IsServingFault}
 use Rattle.bank_service.specs.ServeOutput.{ServerContinues}
 use Rattle.bank_service.specs.ServedBank.{IsBankAfter}
 use Rattle.program_words.specs.declared.plan.Plan.{Plan}
 use Rattle.bank_service.proofs.GoneCrews.{finish_fault_beside, serving_fault_if}
-use Rattle.bank_service.proofs.ServingAtOnce.{if_both, over_behind, over_continues, rounds_at_first, rounds_then, still_begun}
+use Rattle.bank_service.proofs.ServingAtOnce.{if_all, over_behind, over_continues, rounds_at_first, rounds_then, still_begun}
 use Rattle.bank_service.proofs.many_server.ManyServer.serve_next.Goals as goal
 
 pub loop-init : goal.loop-init
 loop-init g c =
     let start = rounds_at_first g.S.CheckpointStore.model g.K.Keeper.model c.args.self.now.plan.saves
-    (outside_of g.A.Arrivals.coming g.A.Arrivals.sent c.args.self.now.sessions.connections) c.args.self.now.sessions.clients.all c.args.self.now.primary in
+    (outside_of g.A.Arrivals.coming g.A.Arrivals.outgoing c.args.self.now.sessions.connections) c.args.self.now.sessions.clients.all c.args.self.now.primary in
     record {
       goes_on = start.0;
       stays = start.1;
@@ -29,22 +27,9 @@ loop-init g c =
       nodes = refl;
     }
 
-pub end_session-requires : goal.end_session-requires
-end_session-requires g c =
-    let outside = outside_of g.A.Arrivals.coming g.A.Arrivals.sent in
-    let kept = c.loop.invariant in
-    let over = c.in-Some-next_over.over in
-    let (h, served) = still_begun g.S.CheckpointStore.model g.K.Keeper.model (outside c.args.self.now.sessions.connections)
-    (outside c.loop.self.sessions.connections) c.args.self.now.sessions.clients.all c.loop.self.sessions.clients.all c.args.self.now.primary
-    c.loop.self.primary kept.goes_on kept.stays.bank c.requires.begun in
-    record {
-      goes_on = over_continues (opening_rows_of c.loop.self.primary) h c.loop.self.primary.log c.loop.self.sessions.clients.all over.place over.ending
-          served c.in-Some-next_over.ensures.there c.in-Some-next_over.ensures.over;
-    }
-
 pub returns-in-Some-next_over-clause-served : goal.returns-in-Some-next_over-clause-served
 returns-in-Some-next_over-clause-served g c =
-    let outside = outside_of g.A.Arrivals.coming g.A.Arrivals.sent in
+    let outside = outside_of g.A.Arrivals.coming g.A.Arrivals.outgoing in
     let model = g.S.CheckpointStore.model in
     let keeper = g.K.Keeper.model in
     let kept = c.loop.invariant in
@@ -52,19 +37,16 @@ returns-in-Some-next_over-clause-served g c =
     let old = c.args.self.now in
     let mid = c.loop.self in
     let new = c.end_session.new.self in
-    let same = c.next_over.ensures.unchanged in
     let (h, served) = still_begun model keeper (outside old.sessions.connections) (outside mid.sessions.connections) old.sessions.clients.all
-    mid.sessions.clients.all old.primary mid.primary kept.goes_on kept.stays.bank c.requires.begun in
+    mid.sessions.clients.all [] old.primary mid.primary kept.goes_on kept.stays.bank c.requires.begun in
     let continues : ServerContinues over.ending = over_continues (opening_rows_of mid.primary) h mid.primary.log mid.sessions.clients.all over.place
-    over.ending served c.in-Some-next_over.ensures.there c.in-Some-next_over.ensures.over in
-    if_both c.end_session.result (λ printed after. over_behind model keeper old.plan.saves c.args.number (outside old.sessions.connections)
+    over.ending served c.in-Some-next_over.ensures.over in
+    if_all c.end_session.result (λ printed after left. over_behind model keeper old.plan.saves c.args.number (outside old.sessions.connections)
     (outside mid.sessions.connections) (outside new.sessions.connections) old.sessions.clients.all mid.sessions.clients.all new.sessions.clients.all
     old.primary mid.primary new.primary (g.W.Write.contents old.writer) (g.W.Write.contents mid.writer) (g.W.Write.contents new.writer) over.ending
     kept.goes_on kept.stays kept.writer continues printed
-    (subst (λ (plan : Plan). IsBankAfter model keeper plan.saves 1 mid.primary new.primary) kept.plan after) c.end_session.ensures.log
-    (ap (λ (x : ClientsOf). x.all) (c.end_session.ensures.clients ∙ ap (λ (s : SessionsOf g.row.A.Denot). s.clients) same))
-    (c.end_session.ensures.outside ∙ ap (λ (s : SessionsOf g.row.A.Denot). outside s.connections) same)) c.end_session.ensures.printed
-    c.end_session.ensures.bank_after
+    (subst (λ (plan : Plan). IsBankAfter model keeper plan.saves 1 mid.primary new.primary) kept.plan after) left c.end_session.ensures.log)
+    c.end_session.ensures.printed c.end_session.ensures.bank_after c.end_session.ensures.left
 
 pub returns-in-Some-next_over-clause-none_out : goal.returns-in-Some-next_over-clause-none_out
 returns-in-Some-next_over-clause-none_out g c =
@@ -83,18 +65,15 @@ returns-in-Some-next_over-clause-fault g c =
 
 pub loop-preserved : goal.loop-preserved
 loop-preserved g c =
-    let outside = outside_of g.A.Arrivals.coming g.A.Arrivals.sent in
+    let outside = outside_of g.A.Arrivals.coming g.A.Arrivals.outgoing in
     let kept = c.loop.invariant in
     let old = c.args.self.now in
     let mid = c.loop.self in
     let new = c.serve_round.new.self in
-    let round : GoesOn (opening_rows_of mid.primary) (outside mid.sessions.connections) mid.primary.log mid.sessions.clients.all
-    (outside new.sessions.connections) new.primary.log new.sessions.clients.all =
-    subst (λ (s : SessionsOf g.row.A.Denot). GoesOn (opening_rows_of mid.primary) (outside s.connections) mid.primary.log s.clients.all
-    (outside new.sessions.connections) new.primary.log new.sessions.clients.all) c.next_over.ensures.unchanged c.in_ok-serve_round.ensures.goes_on in
     let both = rounds_then g.S.CheckpointStore.model g.K.Keeper.model old.plan.saves
     (outside old.sessions.connections) (outside mid.sessions.connections) (outside new.sessions.connections) old.sessions.clients.all
-    mid.sessions.clients.all new.sessions.clients.all old.primary mid.primary new.primary kept.goes_on kept.stays round c.serve_round.ensures.bank in
+    mid.sessions.clients.all new.sessions.clients.all old.primary mid.primary new.primary kept.goes_on kept.stays c.in_ok-serve_round.ensures.goes_on
+    c.serve_round.ensures.bank in
     record {
       goes_on = both.0;
       stays = both.1;

@@ -1,4 +1,4 @@
-use Rattle.std.proofs.Common.{◌≡◌, ℕ, false, subst}
+use Rattle.std.proofs.Common.{◌≡◌, ℕ, false, length, subst}
 use Rattle.cown_workers.specs.Draining.{HasNoneOut}
 use Rattle.bank_server.proofs.boards.WholeReplies.{if_err}
 use Rattle.bank_server.proofs.sessions.FrameSteps.{keeps_on}
@@ -9,6 +9,9 @@ use Rattle.bank_service.proofs.many_server.ManyServer.serve_round.Goals as goal
 
 pub returns-in_err-wait-clause-bank : goal.returns-in_err-wait-clause-bank
 returns-in_err-wait-clause-bank g c = stays_bank c.args.self.now.primary
+
+pub serve-requires : goal.serve-requires
+serve-requires g c = record { ready = c.wait.ensures.ready (length c.args.self.now.primary.log) c.requires.ready }
 
 pub returns-clause-bank : goal.returns-clause-bank
 returns-clause-bank g c =

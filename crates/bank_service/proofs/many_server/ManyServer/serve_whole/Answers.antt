@@ -13,7 +13,7 @@ serve_all-requires-clause-none_out g c =
 
 pub returns-clause-served : goal.returns-clause-served
 returns-clause-served g c =
-    let outside = outside_of g.A.Arrivals.coming g.A.Arrivals.sent in
+    let outside = outside_of g.A.Arrivals.coming g.A.Arrivals.outgoing in
     let model = g.S.CheckpointStore.model in
     let keeper = g.K.Keeper.model in
     let contents = g.W.Write.contents in

@@ -3,10 +3,9 @@ use Rattle.sb_calls.specs.declared.ask.Key.{Key}
 use Rattle.sb_calls.specs.declared.call.Call.{Call}
 use Rattle.sb_sequencer.specs.Numbering.{IsLog}
 use Rattle.sb_sequencer.specs.Sequencer.{SequencerOf}
-use Rattle.bank_server.specs.inner.AskSteps.{ExtendsLog}
 use Rattle.bank_server.specs.inner.CountedAsks.{counts_by}
 use Rattle.bank_server.specs.declared.node0.ask_counts.AskCounts.{AskCounts}
-use Rattle.bank_server.specs.Primary.{PrimaryOf}
+use Rattle.bank_server.specs.Primary.{ExtendsLog, PrimaryOf}
 use Rattle.bank_server.proofs.boards.LogOps.{kept_by_more}
 use Rattle.bank_server.proofs.lines.AnswerStandings.{asks_one, counted_so}
 use Rattle.bank_server.proofs.sessions.Keeping.{extends_by_answer, numbers_by}

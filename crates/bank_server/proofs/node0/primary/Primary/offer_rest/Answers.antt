@@ -1,4 +1,4 @@
-use Rattle.std.proofs.Common.{◌≡◌, ℕ, ◌+◌, suc, ◌∷◌, [], List, Some, length, sym, ap, subst, ◌∙◌, arith, length-append}
+use Rattle.std.proofs.Common.{◌≡◌, ℕ, suc, ◌∷◌, [], List, Some, length, sym, ap, subst, ◌∙◌, arith, length-append}
 use Rattle.std.specs.Prelude.{slice_get}
 use Rattle.std.specs.Option.{option_copied}
 use Rattle.std.proofs.lemmas.Result.{err_from_is_err_and}
@@ -26,13 +26,31 @@ returns-in_err-submit_op-clause-serves g c =
     let fault = c.in_err-submit_op.field-0.0 in
     let old = c.args.self.now.node.board in
     let at : ReplicaOf g.row.S.Denot = loop.self-inside.node.value in
+    let new = c.submit_op.new.replica in
+    let log = loop.self-inside.log.value.log in
+    let call = c.unwrap-call.result.now in
+    let op = c.resolve-op.result in
     let there : c.deref_mut.result.now ≡ at = c.deref_mut.ensures.value in
+    let names : c.directory.result.now ≡ at.names =
+    c.directory.ensures ∙ ap (λ (r : ReplicaOf g.row.S.Denot). r.names) c.deref-in-loop-number-2.ensures in
+    let looked_up : op_of at.names call ≡ op = ap (λ (ns : List (List ℕ)). op_of ns call) (sym names) ∙ sym c.resolve-op.ensures.value in
+    let found : call_of_number log loop.number ≡ Some call =
+    ap (λ (s : SequencerOf). call_of_number s.log loop.number) (sym c.deref-in-loop-number.ensures)
+    ∙ sym c.call.ensures ∙ ap option_copied c.unwrap-call.ensures in
+    let whole = log_ops c.args.self.now.node.names c.args.self.now.log in
+    let same : log_ops at.names log ≡ whole =
+    ap (λ (r : RestOf g.row.S.Denot). log_ops r.names log) kept.beside ∙ ap (λ l. log_ops c.args.self.now.node.names l) kept.log in
+    let next : slice_get whole (length_of at.board) ≡ Some op =
+    ap (λ l. slice_get l (length_of at.board)) (sym same)
+    ∙ next_call at.names log at.board call loop.number kept.kept.valid.behind.base_replies kept.count found ∙ ap Some looked_up in
+    let turned = subst (λ (r : ReplicaOf g.row.S.Denot). slice_get whole (length_of r.board) ≡ Some op → TurnsLead whole r new) there
+    (c.submit_op.ensures.turns whole) next in
     record {
       bank = kept_bank c.args.self.now
-          (record { log = loop.self-inside.log.value.log; counts = loop.self-inside.counts; node = c.submit_op.new.replica; keeper = loop.self-inside.keeper })
+          (record { log = log; counts = loop.self-inside.counts; node = new; keeper = loop.self-inside.keeper })
           (c.submit_op.ensures.rest ∙ ap (λ (r : ReplicaOf g.row.S.Denot). rest_of r) there ∙ kept.beside)
           (c.in_err-submit_op.ensures.err.opening ∙ ap (λ (r : ReplicaOf g.row.S.Denot). r.board.opening) there ∙ kept.opening)
-          kept.keeper kept.log;
+          kept.keeper kept.log (goes_on whole kept.turns turned);
       none_out = λ e none. c.submit_op.ensures.none_out e
           (subst (λ (r : ReplicaOf g.row.S.Denot). HasNoneOut r.board) (sym there) (kept.none_out e none));
       crew_lost = rw (p.1, p.2) (loses_crew keeps old fault (fault_behind keeps old at.board fault kept.none_out
@@ -95,7 +113,7 @@ returns-clause-serves g c =
             node = loop.self-inside.node.value;
             keeper = loop.self-inside.keeper;
           })
-          kept.beside kept.opening kept.keeper kept.log;
+          kept.beside kept.opening kept.keeper kept.log kept.turns;
       none_out = kept.none_out;
       crew_lost = tt;
       log_lost = tt;
@@ -106,32 +124,6 @@ returns-in_err-submit_op-clause-one_each g c = c.loop-number.invariant.kept.vali
 
 pub returns-clause-one_each : goal.returns-clause-one_each
 returns-clause-one_each g c = c.loop-number.invariant.kept.valid.log
-
-pub returns-in_err-submit_op-clause-turns : goal.returns-in_err-submit_op-clause-turns
-returns-in_err-submit_op-clause-turns g c =
-    let loop = c.loop-number in
-    let kept = loop.invariant in
-    let at : ReplicaOf g.row.S.Denot = loop.self-inside.node.value in
-    let new = c.submit_op.new.replica in
-    let log = loop.self-inside.log.value.log in
-    let call = c.unwrap-call.result.now in
-    let op = c.resolve-op.result in
-    let there : c.deref_mut.result.now ≡ at = c.deref_mut.ensures.value in
-    let names : c.directory.result.now ≡ at.names =
-    c.directory.ensures ∙ ap (λ (r : ReplicaOf g.row.S.Denot). r.names) c.deref-in-loop-number-2.ensures in
-    let looked_up : op_of at.names call ≡ op = ap (λ (ns : List (List ℕ)). op_of ns call) (sym names) ∙ sym c.resolve-op.ensures.value in
-    let found : call_of_number log loop.number ≡ Some call =
-    ap (λ (s : SequencerOf). call_of_number s.log loop.number) (sym c.deref-in-loop-number.ensures)
-    ∙ sym c.call.ensures ∙ ap option_copied c.unwrap-call.ensures in
-    let whole = log_ops c.args.self.now.node.names c.args.self.now.log in
-    let same : log_ops at.names log ≡ whole =
-    ap (λ (r : RestOf g.row.S.Denot). log_ops r.names log) kept.beside ∙ ap (λ l. log_ops c.args.self.now.node.names l) kept.log in
-    let next : slice_get whole (length_of at.board) ≡ Some op =
-    ap (λ l. slice_get l (length_of at.board)) (sym same)
-    ∙ next_call at.names log at.board call loop.number kept.kept.valid.behind.base_replies kept.count found ∙ ap Some looked_up in
-    let turned = subst (λ (r : ReplicaOf g.row.S.Denot). slice_get whole (length_of r.board) ≡ Some op → TurnsLead whole r new) there
-    (c.submit_op.ensures.turns whole) next in
-    goes_on whole kept.turns turned
 
 pub returns-clause-offered : goal.returns-clause-offered
 returns-clause-offered g c =

@@ -1,11 +1,10 @@
-use Rattle.std.proofs.Common.{◌≡◌, rules, ap, subst, sym, ◌∙◌}
+use Rattle.std.proofs.Common.{◌≡◌, ap, subst, sym, ◌∙◌}
 use Rattle.std.proofs.lemmas.Result.{err_from_is_err_and}
 use Rattle.cown_workers.specs.Draining.{HasNoneOut, PreservesLog}
 use Rattle.sb_replica.specs.Replica.{ReplicaOf, rest_of}
 use Rattle.bank_server.specs.Faults.{IsExecutionFault}
-use Rattle.bank_server.specs.NodeTurns.{TurnsLead}
-use Rattle.bank_server.specs.Primary.{PrimaryOf, log_ops}
-use Rattle.bank_server.proofs.boards.NodeTurns.{goes_on}
+use Rattle.bank_server.specs.Primary.{PrimaryOf}
+use Rattle.bank_server.proofs.sessions.FrameSteps.{executes_on}
 use Rattle.bank_server.proofs.boards.LogOps.{fault_behind, kept_by_same, loses_crew, loses_no_log}
 use Rattle.bank_server.proofs.node0.primary.Primary.settle.Goals as goal
 
@@ -32,7 +31,12 @@ returns-in_err-execute_unfinished-clause-serves g c =
     let there : c.deref_mut.result.now ≡ mid =
     c.deref_mut.ensures.value ∙ ap (λ (p : PrimaryOf g.row.S.Denot g.row.K.Denot). p.node) c.self.view_is in
     record {
-      bank = search rules;
+      bank = executes_on c.args.self.now c.offer_rest.new.self
+          (record { log = c.self.inside.log.value.log; counts = c.self.inside.counts; node = c.execute_unfinished.new.replica; keeper = c.self.inside.keeper })
+          c.deref_mut.result.now c.offer_rest.ensures.serves.bank there c.execute_unfinished.ensures.rest c.execute_unfinished.ensures.log
+          c.execute_unfinished.ensures.turns
+          (ap (λ (p : PrimaryOf g.row.S.Denot g.row.K.Denot). p.keeper) c.self.view_is)
+          (ap (λ (p : PrimaryOf g.row.S.Denot g.row.K.Denot). p.log) c.self.view_is);
       none_out = λ e none. c.execute_unfinished.ensures.none_out e
           (subst (λ (r : ReplicaOf g.row.S.Denot). HasNoneOut r.board) (sym there) (offered.none_out e none));
       crew_lost = rw (p.1, p.2) (loses_crew keeps old fault (fault_behind keeps old mid.board fault offered.none_out
@@ -46,25 +50,14 @@ returns-clause-serves g c =
     let there : c.deref_mut.result.now ≡ mid =
     c.deref_mut.ensures.value ∙ ap (λ (p : PrimaryOf g.row.S.Denot g.row.K.Denot). p.node) c.self.view_is in
     record {
-      bank = search rules;
+      bank = executes_on c.args.self.now c.offer_rest.new.self
+          (record { log = c.self.inside.log.value.log; counts = c.self.inside.counts; node = c.execute_unfinished.new.replica; keeper = c.self.inside.keeper })
+          c.deref_mut.result.now c.offer_rest.ensures.serves.bank there c.execute_unfinished.ensures.rest c.execute_unfinished.ensures.log
+          c.execute_unfinished.ensures.turns
+          (ap (λ (p : PrimaryOf g.row.S.Denot g.row.K.Denot). p.keeper) c.self.view_is)
+          (ap (λ (p : PrimaryOf g.row.S.Denot g.row.K.Denot). p.log) c.self.view_is);
       none_out = λ e none. c.execute_unfinished.ensures.none_out e
           (subst (λ (r : ReplicaOf g.row.S.Denot). HasNoneOut r.board) (sym there) (c.offer_rest.ensures.serves.none_out e none));
       crew_lost = tt;
       log_lost = tt;
     }
-
-pub returns-in_err-execute_unfinished-clause-turns : goal.returns-in_err-execute_unfinished-clause-turns
-returns-in_err-execute_unfinished-clause-turns g c =
-    let log = log_ops c.args.self.now.node.names c.args.self.now.log in
-    let there : c.deref_mut.result.now ≡ c.offer_rest.new.self.node =
-    c.deref_mut.ensures.value ∙ ap (λ (p : PrimaryOf g.row.S.Denot g.row.K.Denot). p.node) c.self.view_is in
-    goes_on log c.offer_rest.ensures.turns
-    (subst (λ (r : ReplicaOf g.row.S.Denot). TurnsLead log r c.execute_unfinished.new.replica) there (c.execute_unfinished.ensures.turns log))
-
-pub returns-clause-turns : goal.returns-clause-turns
-returns-clause-turns g c =
-    let log = log_ops c.args.self.now.node.names c.args.self.now.log in
-    let there : c.deref_mut.result.now ≡ c.offer_rest.new.self.node =
-    c.deref_mut.ensures.value ∙ ap (λ (p : PrimaryOf g.row.S.Denot g.row.K.Denot). p.node) c.self.view_is in
-    goes_on log c.offer_rest.ensures.turns
-    (subst (λ (r : ReplicaOf g.row.S.Denot). TurnsLead log r c.execute_unfinished.new.replica) there (c.execute_unfinished.ensures.turns log))
