@@ -15,9 +15,7 @@ use crate::told_listener::ToldListener;
 use crate::trouble::Trouble;
 use crate::watch::Watch;
 use bank_server::{Primary, RunFault};
-use bank_service::{
-    ServeFault, SocketListener, find_bank, open_on_file, serve, whole_opening,
-};
+use bank_service::{ServeFault, SocketListener, find_bank, open_on_file, serve, whole_opening};
 use program_words::Plan;
 use sb_ask_log::AskLog;
 use sb_calls::{REPLICAS, WORKERS};
