@@ -222,24 +222,30 @@ fn words_of_a_server_of_many_clients(rt: HostRuntime) {
 #[test]
 fn words_of_a_server_with_a_log(rt: HostRuntime) {
     let alloc = rt.alloc();
-    let endless = Plan {
+    let usual = Plan {
         sessions: usize::MAX,
+        clients: Some(100),
+        patience: Some(60),
         ..SERVED_AS_USUAL
     };
-    let many = Plan {
+    let few = Plan {
         sessions: 1_000_000,
+        clients: Some(2),
+        patience: Some(86_400),
         ..SERVED_AS_USUAL
     };
-    for (words, plan) in [
-        (["serve", "--port=0", "--log", "bank", "--nodes=1"], endless),
-        (
-            ["serve", "--log=bank", "--port", "0", "--sessions=1000000"],
-            many,
-        ),
-    ] {
-        let read = served_at(0, plan, ".", Some("bank"));
-        expect(&rt, alloc, &words, read);
-    }
+    let words = ["serve", "--port=0", "--log", "bank", "--nodes=1"];
+    expect(&rt, alloc, &words, served_at(0, usual, ".", Some("bank")));
+    let words = [
+        "serve",
+        "--log=bank",
+        "--port",
+        "0",
+        "--sessions=1000000",
+        "--clients=2",
+        "--patience=86400",
+    ];
+    expect(&rt, alloc, &words, served_at(0, few, ".", Some("bank")));
 }
 
 #[test]
