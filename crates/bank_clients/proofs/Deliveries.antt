@@ -6,6 +6,7 @@ use Rattle.std.proofs.lemmas.List.{drop_all}
 use Rattle.std.proofs.lemmas.Option.{same_Some, slice_get_within}
 use Rattle.cown_board.proofs.LogLaws.{some_at}
 use Rattle.bank_server.specs.Clients.{AreCalmBut, ClientOf, ClientsOf, End, IsCalm, fresh_client}
+use Rattle.bank_server.specs.declared.session.client_limits.ClientLimits.{ClientLimits}
 use Rattle.bank_clients.specs.Sessions.{AreSentBut, IsUnsent}
 use Rattle.bank_clients.specs.inner.Rounds.{endings_of}
 use Rattle.bank_clients.proofs.Places.{among_rest, each_with, if_there, nobody_among, rest_from}
@@ -96,11 +97,12 @@ sent_before_turn full stirred old new sent calm i = by (slice_get old i) (slice_
     by o (Some n) h (inr there) = inr (inr there)
 
 -- nothing is left for one who was before its first byte
-pub sent_without : (full full_after : ℕ → Bool) (places places_after : List ℕ) (place : ℕ) (clients : List ClientOf) → place < length clients
+pub sent_without : (limits : ClientLimits) (full full_after : ℕ → Bool) (places places_after : List ℕ) (place : ℕ)
+    (clients : List ClientOf) → place < length clients
     → ((i : ℕ) → i ≢ place → IsUnsent full places i → IsUnsent full_after places_after i) → AreSentBut full places clients
-    → AreSentBut full_after places_after (slice_set clients place fresh_client)
-sent_without full full_after places places_after place clients within still sent =
-    each_with (λ (i : ℕ) (c : ClientOf). (c.outcomes ≡ []) ⊎ IsUnsent full_after places_after i) clients place fresh_client within (inl refl)
+    → AreSentBut full_after places_after (slice_set clients place (fresh_client limits))
+sent_without limits full full_after places places_after place clients within still sent =
+    each_with (λ (i : ℕ) (c : ClientOf). (c.outcomes ≡ []) ⊎ IsUnsent full_after places_after i) clients place (fresh_client limits) within (inl refl)
     (λ i apart. still_unsent full full_after places places_after i (still i apart) (slice_get clients i) (sent i))
 
 -- ---- one connection

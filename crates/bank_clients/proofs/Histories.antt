@@ -11,9 +11,10 @@ use Rattle.sb_calls.specs.declared.ask.Key.{Key}
 use Rattle.sb_calls.specs.declared.call.Call.{Call}
 use Rattle.sb_rows.specs.Rows.{Rows}
 use Rattle.sb_sequencer.specs.Numbering.{IsLog}
+use Rattle.bank_server.specs.declared.session.client_limits.ClientLimits.{ClientLimits}
 use Rattle.bank_server.proofs.clients.ClientPlaces.{fresh_ready, fresh_served}
 use Rattle.bank_server.proofs.sessions.OwnLog.{own_log}
-use Rattle.bank_server.specs.Clients.{ClientOf, End, IsReady, IsServed, OutgoingOf, Piece, ServesTurn, StaysServed, TakesFromFront, fresh_client, no_past, past_with, sends}
+use Rattle.bank_server.specs.Clients.{ClientOf, End, IsReady, IsServed, OutgoingOf, Piece, ServesTurn, StaysServed, TakesFromFront, IsFreshClient, fresh_client, no_past, past_with, sends}
 use Rattle.bank_clients.specs.History.{ClientEvent, ComesAndGoes, GoesOn, HistoryOf, MayAllHappen, MayHappen, OutsideOf, ServesEach, TakesBytes, bytes_in, ends_in, first_history, history_after, pieces_in, with_client_event}
 use Rattle.bank_clients.specs.History.{Comes, Takes, Leaves}
 use Rattle.bank_clients.specs.Sessions.{AreReady, IsOverAt, IsUnsent, SessionsOf}
@@ -42,11 +43,11 @@ came_then (Some a) (Some b) None xs ys first second = absurd second
 came_then (Some a) (Some b) (Some c) xs ys first second =
     first ∙ ap (λ (l : List (ℕ × Piece)). xs ++ l) second ∙ sym (append_assoc xs ys c)
 
-nothing_went : (sent : Sent) → TakesBytes sent sent []
+pub nothing_went : (sent : Sent) → TakesBytes sent sent []
 nothing_went None = tt
 nothing_went (Some sent) = ap (λ (l : List (ℕ × List ℕ)). Some l) (sym (append-nil sent))
 
-went_then : (a b c : Sent) (xs ys : List (ℕ × List ℕ)) → TakesBytes a b xs → TakesBytes b c ys → TakesBytes a c (xs ++ ys)
+pub went_then : (a b c : Sent) (xs ys : List (ℕ × List ℕ)) → TakesBytes a b xs → TakesBytes b c ys → TakesBytes a c (xs ++ ys)
 went_then None b c xs ys first second = tt
 went_then (Some a) b c xs ys first second =
     subst (λ (s : Sent). TakesBytes s c ys) first second ∙ ap (λ (l : List (ℕ × List ℕ)). Some l) (append_assoc a xs ys)
@@ -160,34 +161,35 @@ round_goes_on opening a b c d here log log_c old rested turned new rests same tu
 
 -- ---- before the first
 
-fresh_at : (clients : List ClientOf) → All (λ c. c ≡ fresh_client) clients → (i : ℕ) (client : ClientOf) → slice_get clients i ≡ Some client
-    → client ≡ fresh_client
+fresh_at : (clients : List ClientOf) → All IsFreshClient clients → (i : ℕ) (client : ClientOf) → slice_get clients i ≡ Some client → IsFreshClient client
 fresh_at clients fresh i client is =
-    subst (λ (c : ClientOf). c ≡ fresh_client) (get_or_from_slice_get clients i client client is) (fresh i client (slice_get_within clients i client is))
+    subst IsFreshClient (get_or_from_slice_get clients i client client is) (fresh i client (slice_get_within clients i client is))
 
-each_fresh : (P : ℕ → ClientOf → Type 0) (clients : List ClientOf) → All (λ c. c ≡ fresh_client) clients → ((i : ℕ) → P i fresh_client)
-    → (i : ℕ) → IfSome (slice_get clients i) (P i)
+each_fresh : (P : ℕ → ClientOf → Type 0) (clients : List ClientOf) → All IsFreshClient clients
+    → ((i : ℕ) (limits : ClientLimits) → P i (fresh_client limits)) → (i : ℕ) → IfSome (slice_get clients i) (P i)
 each_fresh P clients fresh here i = by (slice_get clients i) refl
   where
     by : (o : Option ClientOf) → slice_get clients i ≡ o → IfSome o (P i)
     by None is = tt
-    by (Some client) is = subst (P i) (sym (fresh_at clients fresh i client is)) (here i)
+    by (Some client) is = subst (P i) (sym (fresh_at clients fresh i client is)) (here i client.limits)
 
 -- sessions whose clients are before their first byte can be served
 pub begins_ready : {A : Type 0} (outgoing : A → OutgoingOf) (writable : A → List ℕ) (calls : ℕ) (sessions : SessionsOf A)
-    → All (λ c. c ≡ fresh_client) sessions.clients.all → AreReady outgoing writable calls sessions
+    → All IsFreshClient sessions.clients.all → AreReady outgoing writable calls sessions
 begins_ready outgoing writable calls sessions fresh = record {
-  ready = λ i d within. subst (λ (c : ClientOf). IsReady calls c) (sym (fresh i d within)) (fresh_ready calls);
+  ready = λ i d within. subst (λ (c : ClientOf). IsReady calls c) (sym (fresh i d within))
+      (fresh_ready _ calls);
   listed = each_fresh (λ (i : ℕ) (c : ClientOf). is_some c.ending ≡ true → Contains sessions.leaving i) sessions.clients.all fresh
-      (λ i ended. absurd (false≢true ended));
+      (λ i limits ended. absurd (false≢true ended));
   sent = each_fresh (λ (i : ℕ) (c : ClientOf). (c.outcomes ≡ []) ⊎ IsUnsent (outgoing sessions.connections).full (writable sessions.connections) i)
-      sessions.clients.all fresh (λ i. inl refl);
+      sessions.clients.all fresh (λ i limits. inl refl);
 }
 
 -- and are served, by any log
-pub begins_served : (opening : Rows) (log : Log) (clients : List ClientOf) → IsLog log → All (λ c. c ≡ fresh_client) clients
+pub begins_served : (opening : Rows) (log : Log) (clients : List ClientOf) → IsLog log → All IsFreshClient clients
     → ServesEach opening (first_history log) log clients
 begins_served opening log clients one_each fresh = record {
   log_is = sym (own_log log one_each);
-  each = each_fresh (λ (i : ℕ) (c : ClientOf). IsServed opening log log no_past c) clients fresh (λ i. fresh_served opening log log);
+  each = each_fresh (λ (i : ℕ) (c : ClientOf). IsServed opening log log no_past c) clients fresh
+      (λ i limits. fresh_served limits opening log log);
 }

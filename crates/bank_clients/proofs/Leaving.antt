@@ -6,6 +6,7 @@ use Rattle.std.proofs.lemmas.Bool.{eqb-true, false≢true}
 use Rattle.std.proofs.lemmas.List.Elements.{All-contains, Contains-append_cases, Contains-append_left, Contains-append_right}
 use Rattle.sb_calls.proofs.CownContents.{eqb-refl}
 use Rattle.bank_server.specs.Clients.{AreCalmBut, ClientOf, End, IsCalm, fresh_client}
+use Rattle.bank_server.specs.declared.session.client_limits.ClientLimits.{ClientLimits}
 use Rattle.bank_clients.specs.Sessions.{AreListed, IsOverAt}
 use Rattle.bank_clients.specs.inner.Rounds.{AreToBeListed, endings_of}
 use Rattle.bank_clients.proofs.Places.{among_rest, each_by_ending, each_with, if_there, nobody_among, one_alone, rest_from}
@@ -25,14 +26,13 @@ ended_in_turn listed stirred old new all calm i = by (slice_get old i) (slice_ge
     by o (Some n) h (inr there) = λ ended. inr there
 
 -- and nobody ends before or after it
-pub ended_in_round : (listed stirred told : List ℕ) (old rested turned new : List ClientOf) → AreListed listed old
-    → endings_of rested ≡ endings_of old → AreCalmBut stirred rested turned → endings_of new ≡ endings_of turned → told ≡ stirred
-    → AreToBeListed listed told new
-ended_in_round listed stirred told old rested turned new all rests calm tells same =
-    let all_rested = each_by_ending (λ (i : ℕ) (e : Option End). is_some e ≡ true → Contains listed i) old rested rests all in
-    subst (λ (l : List ℕ). AreToBeListed listed l new) (sym same)
-    (each_by_ending (λ (i : ℕ) (e : Option End). is_some e ≡ true → Contains listed i ⊎ Contains stirred i) turned new tells
-    (ended_in_turn listed stirred rested turned all_rested calm))
+pub listed_behind : (listed : List ℕ) (old new : List ClientOf) → endings_of new ≡ endings_of old → AreListed listed old → AreListed listed new
+listed_behind listed old new same all = each_by_ending (λ (i : ℕ) (e : Option End). is_some e ≡ true → Contains listed i) old new same all
+
+pub ended_in_round : (listed stirred : List ℕ) (old rested turned : List ClientOf) → AreListed listed old → endings_of rested ≡ endings_of old
+    → AreCalmBut stirred rested turned → AreToBeListed listed stirred turned
+ended_in_round listed stirred old rested turned all rests calm =
+    ended_in_turn listed stirred rested turned (listed_behind listed old rested rests all) calm
 
 -- one more is listed, unless it hasn't ended
 pub listed_with : (clients : List ClientOf) (listed listed_after stirred : List ℕ) (index place : ℕ) → slice_get stirred index ≡ Some place
@@ -117,10 +117,11 @@ others_pass place i apart = by (i == place) refl
     by false other = refl
 
 -- one who was left is listed no more
-pub listed_without : (clients : List ClientOf) (listed : List ℕ) (place : ℕ) → place < length clients → AreListed listed clients
-    → AreListed (filter (λ n. not (n == place)) listed) (slice_set clients place fresh_client)
-listed_without clients listed place within all =
-    each_with (λ (i : ℕ) (c : ClientOf). is_some c.ending ≡ true → Contains (filter (λ n. not (n == place)) listed) i) clients place fresh_client within
+pub listed_without : (limits : ClientLimits) (clients : List ClientOf) (listed : List ℕ) (place : ℕ) → place < length clients → AreListed listed clients
+    → AreListed (filter (λ n. not (n == place)) listed) (slice_set clients place (fresh_client limits))
+listed_without limits clients listed place within all =
+    each_with (λ (i : ℕ) (c : ClientOf). is_some c.ending ≡ true → Contains (filter (λ n. not (n == place)) listed) i)
+    clients place (fresh_client limits) within
     (λ ended. absurd (false≢true ended)) (λ i apart. by i apart (slice_get clients i) (all i))
   where
     by : (i : ℕ) → i ≢ place → (o : Option ClientOf) → IfSome o (λ c. is_some c.ending ≡ true → Contains listed i)

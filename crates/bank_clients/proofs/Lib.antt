@@ -2,3 +2,4 @@ pub mod Deliveries
 pub mod Histories
 pub mod Leaving
 pub mod Places
+pub mod Unread

@@ -6,7 +6,7 @@ use Rattle.sb_calls.specs.declared.ask.Key.{Key}
 use Rattle.sb_calls.specs.declared.call.Call.{Call}
 use Rattle.sb_frames.specs.declared.frame.Frame as wire
 use Rattle.sb_sequencer.specs.Numbering.{IsLog, first_asks}
-use Rattle.bank_server.specs.Clients.{AreServed, AreTakenInOrder, ClientOf, End, IsServed, PastOf, Piece, TakesFromFront, asks_of_all, fresh_client, no_past, past_after, past_with, sends}
+use Rattle.bank_server.specs.Clients.{AreServed, AreTakenInOrder, ClientOf, End, IsServed, PastOf, Piece, TakesFromFront, asks_of_all, IsFreshClient, no_past, past_after, past_with, sends}
 use Rattle.bank_server.specs.declared.session.session_fault.SessionFault.TheVariants.{Device}
 
 -- ---- what happens
@@ -118,4 +118,4 @@ GoesOn opening outside old_log old ends outside_after new_log new =
 -- clients before their first byte are served, by any log that is there
 abbrev pub BeginsServed : Type 0
 BeginsServed = (opening : Rows) (log : List (Key × Call)) (clients : List ClientOf) → IsLog log
-    → All (λ client. client ≡ fresh_client) clients → ServesEach opening (first_history log) log clients
+    → All IsFreshClient clients → ServesEach opening (first_history log) log clients

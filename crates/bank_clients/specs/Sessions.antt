@@ -1,8 +1,8 @@
 -- The sessions of clients who are served at once.
-use Rattle.std.specs.Prelude.{◌≡◌, ◌⊎◌, ℕ, Bool, true, Option, Some, is_some, List, [], IfSome, slice_get}
-use Rattle.std.specs.List.{All, Contains}
+use Rattle.std.specs.Prelude.{◌≡◌, ◌⊎◌, ℕ, ◌==◌, Bool, true, if◌then◌else◌, Option, Some, None, is_some, List, [], ◌++◌, IfSome, slice_get}
+use Rattle.std.specs.List.{All, Contains, flat_map}
 use Rattle.bank_server.specs.Clients.{ClientOf, ClientsOf, End, IsReady, OutgoingOf, Piece}
-use Rattle.bank_clients.specs.History.{IsOver, OutsideOf}
+use Rattle.bank_clients.specs.History.{IsOver, OutsideOf, TakesBytes}
 
 -- connections, the clients there, and the places of those who ended and aren't left yet
 pub record SessionsOf (A : Type 0) : Type 0 where
@@ -28,6 +28,21 @@ IsUnsent full writable place = (full place ≡ true) ⊎ Contains writable place
 abbrev pub AreSentBut : (ℕ → Bool) → List ℕ → List ClientOf → Type 0
 AreSentBut full places clients =
     (i : ℕ) → IfSome (slice_get clients i) (λ client. (client.outcomes ≡ []) ⊎ IsUnsent full places i)
+
+-- what the client at a place has unread, which is nothing if nobody is there
+abbrev pub unread_of : Option ClientOf → List ℕ
+unread_of None = []
+unread_of (Some client) = client.outcomes
+
+-- the bytes that went to the client at a place, in order
+abbrev pub bytes_to : ℕ → List (ℕ × List ℕ) → List ℕ
+bytes_to place took = flat_map (λ (t : ℕ × List ℕ). if t.0 == place then t.1 else []) took
+
+-- each connection took nothing but a beginning of what its client had unread, if it is known what they take
+pub record TakesUnread (clients : List ClientOf) (old new : Option (List (ℕ × List ℕ))) : Type 0 where
+  pub bytes : List (ℕ × List ℕ)
+  pub took : TakesBytes old new bytes
+  pub unread : (place : ℕ) → (rest : List ℕ) × (unread_of (slice_get clients place) ≡ bytes_to place bytes ++ rest)
 
 -- each client who has ended is among these
 abbrev pub AreListed : List ℕ → List ClientOf → Type 0

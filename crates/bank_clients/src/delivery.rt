@@ -2,7 +2,7 @@
 ghost use Rattle.std.specs.Prelude.{◌≡◌, ◌∷◌, ℕ, List, [], IfSome};
 ghost use Rattle.bank_server.specs.Clients.{StaysReady};
 ghost use Rattle.bank_clients.specs.Sessions.{AreSentBut, outside_of};
-ghost use Rattle.bank_clients.specs.inner.Rounds.{StandsBy, endings_of};
+ghost use Rattle.bank_clients.specs.inner.Rounds.{LeavesRest, StandsBy, endings_of};
 
 use crate::connections::Connections;
 use bank_server::Clients;
@@ -30,6 +30,8 @@ pub(crate) fn deliver_rest<A: Connections>(connections: &mut A, clients: &mut Cl
         (outside_of A.coming A.outgoing connections.new) clients.new.all }
     ensures sent { AreSentBut (A.outgoing connections.old).full (A.writable_places connections.old) clients.old.all
         → AreSentBut (A.outgoing connections.new).full [] clients.new.all }
+    ensures rest { LeavesRest clients.old.all clients.new.all
+        (A.outgoing connections.old).sent (A.outgoing connections.new).sent }
     ensures ready { StaysReady clients.old.all clients.new.all }
     ensures endings { endings_of clients.new.all ≡ endings_of clients.old.all }
 {
@@ -46,6 +48,8 @@ fn deliver<A: Connections>(place: Option<usize>, connections: &mut A, clients: &
     ensures sent { IfSome place (λ place. (places : List ℕ)
         → AreSentBut (A.outgoing connections.old).full (place ∷ places) clients.old.all
         → AreSentBut (A.outgoing connections.new).full places clients.new.all) }
+    ensures rest { LeavesRest clients.old.all clients.new.all
+        (A.outgoing connections.old).sent (A.outgoing connections.new).sent }
     ensures ready { StaysReady clients.old.all clients.new.all }
     ensures endings { endings_of clients.new.all ≡ endings_of clients.old.all }
     ensures stirred { clients.new.stirred ≡ clients.old.stirred }

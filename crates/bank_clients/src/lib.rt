@@ -4,8 +4,10 @@
 mod client_errors;
 mod connections;
 mod delivery;
+mod dismissing;
 mod laws;
 mod lingering;
+mod one_by_one;
 mod session_notes;
 mod sessions;
 mod slot;
@@ -16,6 +18,7 @@ mod traffic;
 pub use client_errors::is_of_a_client;
 pub use connections::Connections;
 pub use laws::begins_served;
+pub use one_by_one::OneByOne;
 pub use session_notes::SessionNotes;
 pub use sessions::{Over, Sessions};
 pub use sockets::{ClientSockets, Limits};

@@ -1,21 +1,21 @@
 //! The sessions of clients who are served at once.
-ghost use Rattle.std.specs.Prelude.{◌≡◌, ◌∷◌, ℕ, List, [], length, IfErr, IfNone, IfOk, IfSome, OnOk, slice_set};
+ghost use Rattle.std.specs.Prelude.{◌≡◌, ◌∷◌, ℕ, List, [], length, IfErr, IfNone, IfOk, IfSome, OnErr, OnOk, slice_set};
 ghost use Rattle.std.specs.List.{All};
 ghost use Rattle.sb_calls.specs.declared.ask.Key.{Key as AnyKey};
 ghost use Rattle.sb_calls.specs.declared.call.Call.{Call as AnyCall};
 ghost use Rattle.sb_rows.specs.Rows.{Rows};
-ghost use Rattle.bank_server.specs.Clients.{End, fresh_client};
+ghost use Rattle.bank_server.specs.Clients.{End, IsFreshClient, fresh_client};
 ghost use Rattle.bank_server.specs.Primary.{opening_rows_of};
 ghost use Rattle.bank_server.specs.ServesOn.{ServesOn};
-ghost use Rattle.bank_server.specs.SessionFaults.{IsSettleFault, IsTurnFault};
+ghost use Rattle.bank_server.specs.SessionFaults.{IsCrewFault, as_session, session_of_turn_fault};
 ghost use Rattle.bank_clients.specs.History.{GoesOn};
-ghost use Rattle.bank_clients.specs.Sessions.{AreListed, AreReady, AreSentBut, IsOverAt, outside_of};
+ghost use Rattle.bank_clients.specs.Sessions.{AreListed, AreReady, AreSentBut, IsOverAt, TakesUnread, outside_of};
 ghost use Rattle.bank_clients.specs.inner.Rounds.{AreToBeListed};
 
 use crate::connections::Connections;
 use crate::delivery::{deliver_new, deliver_rest};
-use bank_server::{Clients, Primary, SessionFault};
-use cown_workers::Crew;
+use bank_server::{ClientLimits, Clients, Primary, SessionFault, TurnFault};
+use cown_workers::{Crew, CrewFault};
 use sb_ask_log::Keeper;
 use sb_checkpoint::CheckpointStore;
 use std::alloc::{AllocError, Global};
@@ -56,16 +56,21 @@ impl<A: Connections> Sessions<A> {
     /// No sessions yet, over these connections, with this many places for clients.
     ///
     /// Fails if memory is refused.
-    pub fn open(alloc: Global, connections: A, places: usize) -> Result<Sessions<A>, AllocError>
+    pub fn open(
+        alloc: Global,
+        connections: A,
+        places: usize,
+        limits: ClientLimits,
+    ) -> Result<Sessions<A>, AllocError>
     where
         A: Drop,
         ensures connections { IfOk result (λ sessions. sessions.connections ≡ connections) }
-        ensures fresh { IfOk result (λ sessions. All (λ client. client ≡ fresh_client) sessions.clients.all) }
+        ensures fresh { IfOk result (λ sessions. All IsFreshClient sessions.clients.all) }
         ensures places { IfOk result (λ sessions. length sessions.clients.all ≡ places) }
         ensures ready { IfOk result (λ sessions. (calls : ℕ)
             → AreReady A.outgoing A.writable_places calls sessions) }
     {
-        let mut clients = Clients::new(alloc)?;
+        let mut clients = Clients::new(alloc, limits)?;
         for _ in 0..places {
             clients.join()?;
         }
@@ -104,7 +109,7 @@ impl<A: Connections> Sessions<A> {
         &mut self,
         primary: &mut Primary<S, K>,
         crew: &mut C,
-    ) -> Result<(), SessionFault>
+    ) -> Result<(), TurnFault>
         requires ready { AreReady A.outgoing A.writable_places (length primary.old.log) self.old }
         // Whoever has ended is listed, and whoever has outcomes left has a connection that takes no more.
         ensures ready { OnOk result (AreReady A.outgoing A.writable_places (length primary.new.log) self.new
@@ -113,19 +118,22 @@ impl<A: Connections> Sessions<A> {
         ensures served { OnOk result (GoesOn (opening_rows_of primary.old)
             (outside_of A.coming A.outgoing self.old.connections) primary.old.log self.old.clients.all []
             (outside_of A.coming A.outgoing self.new.connections) primary.new.log self.new.clients.all) }
-        ensures kept_after_fault { IfErr result (λ fault. IsSettleFault fault
+        // After a fault nothing that the turn gave went out, but only what clients had unread before.
+        ensures unsent { OnErr result (TakesUnread self.old.clients.all
+            (A.outgoing self.old.connections).sent (A.outgoing self.new.connections).sent) }
+        // After a fault that isn't the log's the whole log is kept.
+        ensures kept_after_fault { IfErr result (λ fault. IsCrewFault fault
             → K.model.Keeps primary.new.keeper primary.new.log) }
         // What was kept stays kept, and a crew that keeps no job leaves none out, after a fault too.
-        ensures serves { ServesOn K.model C.keeps result primary.old primary.new }
-        ensures fault { IfErr result IsTurnFault }
+        ensures serves { ServesOn K.model C.keeps (as_session session_of_turn_fault result) primary.old primary.new }
     {
         deliver_rest(&mut self.connections, &mut self.clients);
         self.clients.turn(&mut self.connections, primary, crew)?;
-        deliver_new(&mut self.connections, &mut self.clients);
         if list_leaving(&self.clients, &mut self.leaving).is_err() {
             primary.keep()?;
-            return Err(SessionFault::OutOfMemory);
+            return Err(TurnFault::Crew(CrewFault::OutOfMemory));
         }
+        deliver_new(&mut self.connections, &mut self.clients);
         Ok(())
     }
 
@@ -173,7 +181,8 @@ impl<A: Connections> Sessions<A> {
         ensures left { (opening : Rows) (log : List (AnyKey × AnyCall)) → GoesOn opening
             (outside_of A.coming A.outgoing self.old.connections) log self.old.clients.all (over.ending ∷ [])
             (outside_of A.coming A.outgoing self.new.connections) log self.new.clients.all }
-        ensures vacated { self.new.clients.all ≡ slice_set self.old.clients.all over.place fresh_client }
+        ensures vacated { self.new.clients.all ≡ slice_set self.old.clients.all over.place
+            (fresh_client self.old.clients.limits) }
         ensures ready { (calls : ℕ) → AreReady A.outgoing A.writable_places calls self.old
             → AreReady A.outgoing A.writable_places calls self.new }
     {

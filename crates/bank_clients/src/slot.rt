@@ -18,6 +18,8 @@ pub(crate) struct Slot {
     written: u64,
     /// When bytes came or went last.
     pub(crate) heard: Instant,
+    /// Since when its client may be silent: when a whole frame came last, or bytes went.
+    pub(crate) silent_since: Instant,
     /// Whether it stands among those that are read.
     pub(crate) is_listed: bool,
     /// Whether its other end sends no more, by the system. Then it is read up to its end.
@@ -42,6 +44,7 @@ impl Slot {
             read: 0,
             written: 0,
             heard: now,
+            silent_since: now,
             is_listed: false,
             is_closing: false,
             is_full: false,
@@ -116,6 +119,7 @@ impl Slot {
             match self.stream.write(rest) {
                 Ok(count) => {
                     self.heard = now;
+                    self.silent_since = now;
                     rest = &rest[count..];
                 }
                 Err(error) => match error.kind() {

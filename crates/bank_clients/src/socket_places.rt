@@ -165,13 +165,13 @@ impl SocketPlaces {
 
     /// Looks at the guests, and answers how many were closed. One is a client from now on if it has sent
     /// something, or was silent for too long. Who closes its connection before is none.
-    pub(crate) fn look_at_guests(&mut self) -> usize {
+    pub(crate) fn look_at_guests(&mut self, now: Instant) -> usize {
         let mut closed: usize = 0;
         for _ in 0..self.guests.len() {
             let Some(place) = self.guests.pop() else {
                 break;
             };
-            if self.look_at(place) == Some(false) {
+            if self.look_at(place, now) == Some(false) {
                 closed = closed.saturating_add(1);
             }
         }
@@ -179,12 +179,13 @@ impl SocketPlaces {
     }
 
     // Looks at the guest at a place: whether it is a client from now on, or is closed, or neither by now.
-    fn look_at(&mut self, place: usize) -> Option<bool> {
+    fn look_at(&mut self, place: usize, now: Instant) -> Option<bool> {
         let slot = slot_at(&mut self.slots, place)?;
         slot.is_listed = false;
         let is_client = slot.has_failed || slot.has_spoken()?;
         if is_client {
             slot.is_guest = false;
+            slot.silent_since = now;
             slot.is_listed = true;
             add(&mut self.ready, place);
         } else {
@@ -239,6 +240,13 @@ impl SocketPlaces {
         }
         // What one who was left still sends is nobody's: the place is the next client's.
         if is_left { None } else { read }
+    }
+
+    /// A whole frame has come from the client at a place.
+    pub(crate) fn hear_place(&mut self, place: usize, now: Instant) {
+        if let Some(slot) = slot_at(&mut self.slots, place) {
+            slot.silent_since = now;
+        }
     }
 
     /// Writes as many of these bytes as the connection at a place takes by now, and answers how many.
@@ -322,11 +330,12 @@ fn take_out(list: &mut Vec<usize>, place: usize) {
     list.retain(|listed| *listed != place);
 }
 
-// When a client has been silent for too long, if it is silent from now on.
+// When a client has been silent for too long, if it is silent from now on. One that is left is by any byte, and
+// else by a whole frame.
 fn deadline(slot: &Slot, patience: Option<Duration>) -> Option<Instant> {
     match &slot.lingering {
         Some(lingering) => lingering.deadline(slot.heard),
-        None => slot.heard.checked_add(patience?),
+        None => slot.silent_since.checked_add(patience?),
     }
 }
 

@@ -31,7 +31,7 @@ pub struct Limits {
     pub at_once: usize,
     /// So many in all. Later ones aren't accepted.
     pub in_all: usize,
-    /// So long.
+    /// So long. A client is silent until a whole frame has come from it, or bytes went to it.
     pub patience: Option<Duration>,
 }
 
@@ -174,7 +174,7 @@ impl<'a, H: Clock, N: SessionNotes> ClientSockets<'a, H, N> {
                 self.seat(stream, peer);
             }
         }
-        let closed = self.places.look_at_guests();
+        let closed = self.places.look_at_guests(self.now);
         self.left = self.left.saturating_add(closed);
     }
 
@@ -193,6 +193,10 @@ impl<'a, H: Clock, N: SessionNotes> Arrivals for ClientSockets<'a, H, N> {
 
     fn next(&mut self, chunk: &mut [u8]) -> Option<Arrival> {
         self.places.next(chunk, self.now)
+    }
+
+    fn heard(&mut self, client: usize) {
+        self.places.hear_place(client, self.now);
     }
 }
 

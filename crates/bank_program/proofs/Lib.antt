@@ -1,1 +1,2 @@
+pub mod JoinedTexts
 pub mod LinesShown

@@ -1,21 +1,19 @@
 //! The program that serves.
-ghost use Rattle.std.specs.Prelude.{◌≡◌, ◌≤◌, None, false, true, is_some, IfErr, IfOk};
+ghost use Rattle.std.specs.Prelude.{◌≡◌, ◌≤◌, None, true, is_some, IfErr, IfOk};
 ghost use Rattle.bank_server.specs.Execution.{HasNoEntries};
-ghost use Rattle.bank_service.specs.ServeFaults.{IsBankFault, IsPortFault, IsProgramFault};
+ghost use Rattle.bank_service.specs.ServeFaults.{IsBankFault, IsProgramFault};
 ghost use Rattle.bank_program.specs.inner.StepFaults.{IsOpenFault, IsOpeningFault, IsStoreFault};
 
 use crate::device::Device;
-use crate::listening::listen;
 use crate::log_report::{CutReport, LogReport};
 use crate::program_clients::serve_clients_at;
 use crate::program_log::LOG;
 use crate::standard_streams::{are_open, input, output};
 use crate::store_folder::{CHECKPOINT, StoreLock, tell_earlier};
-use crate::told_listener::ToldListener;
 use crate::trouble::Trouble;
 use crate::watch::Watch;
 use bank_server::{Primary, RunFault};
-use bank_service::{ServeFault, SocketListener, find_bank, open_on_file, serve, whole_opening};
+use bank_service::{ServeFault, find_bank, open_on_file, whole_opening};
 use program_words::Plan;
 use sb_ask_log::AskLog;
 use sb_calls::{REPLICAS, WORKERS};
@@ -32,11 +30,6 @@ use std::time::Clock;
 
 // A store in a folder of the system.
 type SystemStore<'t, 'd> = FileStore<Watch<'t, 'd, FolderFile<HostRuntime>>>;
-
-// Clients of the system's sockets, one after another.
-type SystemClients<'t, 'd, 'r, H> = ToldListener<
-    Watch<'t, 'd, SocketListener<'r, H, <H as Net>::Listener>>,
->;
 
 // A bank on a log's file of the system.
 type SystemBank<'t, 'd, 'r> = Primary<SystemStore<'t, 'd>, AskLog<SystemFile<'r>>>;
@@ -59,7 +52,7 @@ pub fn serve_program<'d, H>(
     trouble: &Trouble<'d>,
 ) -> Result<(), ServeFault>
 where
-    H: Threads + Wait + Clock + Sync + Net,
+    H: Threads + Wait + Clock + Sync + Net + Copy + Send + 'static,
     requires nodes { plan.nodes ≤ REPLICAS }
     requires workers { plan.workers ≤ WORKERS }
     ensures fault { IfErr result (IsProgramFault port plan (is_some log.entry)) }
@@ -76,7 +69,8 @@ where
     if plan.saves {
         tell_earlier(rt, folder);
     }
-    serve_at(rt, threads, port, opening, store, plan, trouble)
+    let primary = boxed_primary(rt.alloc(), opening, store)?;
+    serve_clients_at(rt, threads, port, primary, plan, trouble)
 }
 
 // Serves a bank whose log is kept in this folder.
@@ -90,7 +84,7 @@ fn serve_with_log<'d, H>(
     trouble: &Trouble<'d>,
 ) -> Result<(), ServeFault>
 where
-    H: Threads + Wait + Clock + Sync + Net,
+    H: Threads + Wait + Clock + Sync + Net + Copy + Send + 'static,
     requires nodes { plan.nodes ≤ REPLICAS }
     requires workers { plan.workers ≤ WORKERS }
     ensures fault { IfErr result (IsProgramFault port plan true) }
@@ -99,11 +93,7 @@ where
     let mut lock = StoreLock::new();
     let opened = open_on_log(rt, folder, plan.saves, log, &mut lock, &reason, trouble);
     let served = match opened {
-        Ok(opened) => {
-            // The words of a bank with a log give it a number.
-            let clients = plan.clients.unwrap_or(1);
-            serve_clients_at(rt, threads, port, opened, clients, plan, trouble)
-        }
+        Ok(opened) => serve_clients_at(rt, threads, port, opened, plan, trouble),
         Err(fault) => Err(fault),
     };
     if let Err(ServeFault::Log(fault)) = served {
@@ -166,33 +156,6 @@ fn open_found<F: LogFile, S: CheckpointStore>(
     Ok(Box::new(alloc, primary)?)
 }
 
-// The clients who come to a port of the plan's host, one after another.
-fn clients_at<'t, 'd, 'r, H>(
-    rt: &HostRuntime,
-    threads: &'r H,
-    port: u16,
-    plan: Plan,
-    trouble: &'t Trouble<'d>,
-) -> Result<SystemClients<'t, 'd, 'r, H>, ServeFault>
-where
-    H: Wait + Net,
-    ensures fault { IfErr result (IsPortFault port) }
-{
-    let address = SocketAddr::new(plan.host, port);
-    let listener = listen(threads, address, trouble)?;
-    let inner = Watch {
-        inner: SocketListener::new(threads, listener),
-        device: Device::Address(address),
-        trouble,
-    };
-    Ok(ToldListener {
-        inner,
-        rt: *rt,
-        is_quiet: plan.is_quiet,
-        came: None,
-    })
-}
-
 // The opening in standard input, read as `whole_opening` reads it.
 fn read_opening(rt: &HostRuntime, trouble: &Trouble<'_>) -> Result<Box<Opening>, ServeFault>
     ensures fault { IfErr result IsOpeningFault }
@@ -239,40 +202,6 @@ fn store_in<P: FileWithSpare>(file: P) -> Result<FileStore<P>, ServeFault>
         Ok(()) => Ok(store),
         Err(_) => Err(ServeFault::Store),
     }
-}
-
-// Serves a bank at a port, with node 0's store.
-fn serve_at<H, S>(
-    rt: &HostRuntime,
-    threads: &H,
-    port: u16,
-    opening: Box<Opening>,
-    store: S,
-    plan: Plan,
-    trouble: &Trouble<'_>,
-) -> Result<(), ServeFault>
-where
-    H: Threads + Wait + Clock + Sync + Net,
-    S: CheckpointStore,
-    requires nodes { plan.nodes ≤ REPLICAS }
-    requires workers { plan.workers ≤ WORKERS }
-    ensures fault { IfErr result (IsProgramFault port plan false) }
-{
-    if let Some(clients) = plan.clients {
-        let primary = boxed_primary(rt.alloc(), opening, store)?;
-        return serve_clients_at(rt, threads, port, primary, clients, plan, trouble);
-    }
-    let listener = clients_at(rt, threads, port, plan, trouble)?;
-    serve(
-        threads,
-        rt.alloc(),
-        listener,
-        Box::into_inner(opening),
-        store,
-        plan,
-        output(rt, trouble),
-    )?;
-    Ok(())
 }
 
 // A bank at an opening. The function owns nothing else, so that a `?` has little to drop.

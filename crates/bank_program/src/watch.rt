@@ -1,16 +1,13 @@
 //! Devices whose errors are noted.
-ghost use Rattle.std.specs.Prelude.{OnOk};
-ghost use Rattle.bank_service.specs.Sessions.{LeavesClient};
 ghost use Rattle.ask_client.specs.Connections.{LeavesStream};
 
 use crate::device::Device;
 use crate::trouble::Trouble;
 use ask_client::{Dialer, ServerStream};
-use bank_server::AskCounts;
-use bank_service::{ClientListener, ClientStream};
 use sb_checkpoint::{FileWithSpare, StoreFault};
 use std::io;
 use std::io::{ErrorKind, Read, Write};
+use std::net::{OpenListener, SocketAddr};
 
 /// A device that is watched: it does what it did before, and each error of the system is noted with
 /// the device's name. So the system's words can be told, which the contracts' faults don't have. What is
@@ -89,33 +86,16 @@ impl<P: FileWithSpare> FileWithSpare for Watch<'_, '_, P> {
     }
 }
 
-impl<D: ClientListener> ClientListener for Watch<'_, '_, D> {
-    type Reader = D::Reader;
+impl<L: OpenListener> OpenListener for Watch<'_, '_, L> {
+    type Stream = L::Stream;
 
-    type Writer = D::Writer;
-
-    ghost clients = { λ watch. D.clients watch.inner };
-
-    ghost listens_at = { λ watch. D.listens_at watch.inner };
-
-    fn accept_client(&mut self) -> io::Result<ClientStream<D::Reader, D::Writer>> {
-        let done = self.inner.accept_client();
+    fn accept(&self) -> io::Result<(L::Stream, SocketAddr)> {
+        let done = self.inner.accept();
         self.trouble.noted(self.device, done)
     }
 
-    fn leave_client(
-        &mut self,
-        client: ClientStream<D::Reader, D::Writer>,
-        counts: AskCounts,
-    ) -> io::Result<()>
-        ensures left { OnOk result (LeavesClient client (D.clients self.old.inner) (D.clients self.new.inner)) }
-    {
-        let done = self.inner.leave_client(client, counts);
-        self.trouble.noted(self.device, done)
-    }
-
-    fn port(&self) -> io::Result<u16> {
-        let done = self.inner.port();
+    fn local_addr(&self) -> io::Result<SocketAddr> {
+        let done = self.inner.local_addr();
         self.trouble.noted(self.device, done)
     }
 }

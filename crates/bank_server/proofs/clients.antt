@@ -4,4 +4,6 @@ pub mod ClientPlaces
 pub mod ClientSteps
 pub mod ClientTurns
 pub mod FlatLists
+pub mod OneClient
 pub mod Stirs
+pub mod WholeFrames

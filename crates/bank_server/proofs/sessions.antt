@@ -7,4 +7,3 @@ pub mod Outcomes
 pub mod OwnLog
 pub mod Saves
 pub mod Serving
-pub mod Sessions

@@ -1,5 +1,5 @@
 -- What is done for clients who are served at once.
-use Rattle.std.specs.Prelude.{◌≡◌, ◌≢◌, ◌⊎◌, ◌↔◌, ◌≤◌, ◌<◌, ◌+◌, ℕ, ◌==◌, Bool, false, true, if◌then◌else◌, Option, Some, None, Result, Ok, Err, List, [], ◌∷◌, ◌++◌, length, map, min, IfSome, OnOk, slice_get, take}
+use Rattle.std.specs.Prelude.{◌≡◌, ◌≢◌, ◌⊎◌, ◌↔◌, ◌≤◌, ◌<◌, ◌+◌, ℕ, ◌==◌, Bool, false, true, if◌then◌else◌, Option, Some, None, Result, Ok, Err, List, [], ◌∷◌, ◌++◌, length, map, min, IfErr, IfSome, OnOk, slice_get, take}
 use Rattle.std.specs.List.{All, Contains, flat_map}
 use Rattle.sb_rows.specs.Rows.{Rows}
 use Rattle.sb_calls.specs.declared.ask.Key.{Key}
@@ -12,12 +12,14 @@ use Rattle.sb_sequencer.specs.Numbering.{first_asks}
 use Rattle.bank_server.specs.AskCounts.{no_asks}
 use Rattle.bank_server.specs.Pending.{ArePendingWithin, pending_ask, unflushed_asks}
 use Rattle.bank_server.specs.Session.{IsFromClient, ask_of_frame, asks_in, outcomes_of}
+use Rattle.bank_server.specs.SessionFaults.{IsLogFault}
 use Rattle.bank_server.specs.SessionResults.{IsFaultAt}
 use Rattle.bank_server.specs.declared.node0.ask_counts.AskCounts.{AskCounts}
-use Rattle.bank_server.specs.declared.session.TheConstants.{ASKS_BEFORE_FLUSH, UNREAD_BYTES}
+use Rattle.bank_server.specs.declared.session.client_limits.ClientLimits.{ClientLimits}
 use Rattle.bank_server.specs.declared.session.inbox.PendingAsk.{PendingAsk}
 use Rattle.bank_server.specs.declared.session.session_fault.SessionFault.{SessionFault}
 use Rattle.bank_server.specs.declared.session.session_fault.SessionFault.TheVariants.{Frame, Unexpected, CrewGone, Device, OutOfMemory, Log, TooMany}
+use Rattle.bank_server.specs.declared.session.turn_fault.TurnFault.{TurnFault}
 
 -- ---- a client
 
@@ -27,41 +29,49 @@ End = Result (Unit {0}) SessionFault
 
 -- a client: its bytes that aren't a whole frame yet; its asks whose outcomes it wasn't given, of
 -- which a flush follows the first ones, that are due; the outcomes that its connection hasn't
--- taken; how many asks it had; how it ended; and whether its connection failed
+-- taken; how many asks it had; what bounds it; how it ended; and whether its connection failed
 pub record ClientOf : Type 0 where
   pub stream : StreamState
   pub pending : List PendingAsk
   pub due : ℕ
   pub outcomes : List ℕ
   pub counts : AskCounts
+  pub limits : ClientLimits
   pub ending : Option End
   pub broken : Bool
 
--- the clients, and those of them that the last turn told something, or that ended in it
+-- the limits of clients who join, the clients, and those of them that the last turn told something, or that
+-- ended in it
 pub record ClientsOf : Type 0 where
+  pub limits : ClientLimits
   pub all : List ClientOf
   pub stirred : List ℕ
 
--- a client before its first byte
-abbrev pub fresh_client : ClientOf
-fresh_client = record {
+-- a client before its first byte, within these limits
+abbrev pub fresh_client : ClientLimits → ClientOf
+fresh_client limits = record {
   stream = empty_stream;
   pending = [];
   due = 0;
   outcomes = [];
   counts = no_asks;
+  limits = limits;
   ending = None;
   broken = false;
 }
 
--- in a log of this many calls: its asks have their places there, at most so many wait for a flush,
--- and until it ends its stream hasn't failed and few outcomes are unread
+-- this client is before its first byte
+abbrev pub IsFreshClient : ClientOf → Type 0
+IsFreshClient client = client ≡ fresh_client client.limits
+
+-- in a log of this many calls: its asks have their places there, at most as many wait for a flush as its
+-- limits say, and until it ends its stream hasn't failed and few outcomes are unread
 pub record IsSound (calls : ℕ) (client : ClientOf) : Type 0 where
   pub within : ArePendingWithin calls client.pending
   pub due : client.due ≤ length client.pending
-  pub few_asks : length client.pending ≤ client.due + ASKS_BEFORE_FLUSH
+  pub few_asks : length client.pending ≤ client.due + client.limits.asks
   pub healthy : client.ending ≡ None → client.stream.failed ≡ false
-  pub few_unread : client.ending ≡ None → length client.outcomes ≤ UNREAD_BYTES
+  pub few_unread : client.ending ≡ None → length client.outcomes ≤ client.limits.unread
 
 -- the same between two turns, when nothing is due
 pub record IsReady (calls : ℕ) (client : ClientOf) : Type 0 where
@@ -121,10 +131,10 @@ pub record PastOf : Type 0 where
 abbrev pub no_past : PastOf
 no_past = record { pieces = []; frames = []; sent = [] }
 
--- at some time more outcomes were unread than may be
-abbrev pub HadManyUnread : List ℕ → List ℕ → Type 0
-HadManyUnread sent outcomes = (before : List ℕ) × (since : List ℕ) × (sent ≡ before ++ since)
-    × (UNREAD_BYTES < length (since ++ outcomes))
+-- at some time more outcomes were unread than this
+abbrev pub HadManyUnread : ℕ → List ℕ → List ℕ → Type 0
+HadManyUnread most sent outcomes = (before : List ℕ) × (since : List ℕ) × (sent ≡ before ++ since)
+    × (most < length (since ++ outcomes))
 
 -- what is left behind the frames of a client that ended so, or goes on
 abbrev pub IsLeft : Option End → PastOf → ClientOf → List ℕ → Type 0
@@ -138,9 +148,10 @@ IsLeft (Some (Err (Frame fault))) past client rest = IsFaultAt (Frame fault) res
 IsLeft (Some (Err Unexpected)) past client rest = IsFaultAt Unexpected rest
 -- one ask more than may wait for a flush
 IsLeft (Some (Err TooMany)) past client rest = IsFaultAt TooMany rest
-    × (length (unflushed_asks past.frames) ≡ ASKS_BEFORE_FLUSH)
+    × (length (unflushed_asks past.frames) ≡ client.limits.asks)
 -- the connection failed, or too many outcomes were unread
-IsLeft (Some (Err Device)) past client rest = Contains past.pieces None ⊎ HadManyUnread past.sent client.outcomes
+IsLeft (Some (Err Device)) past client rest =
+    Contains past.pieces None ⊎ HadManyUnread client.limits.unread past.sent client.outcomes
 IsLeft (Some (Err CrewGone)) past client rest = ⊥
 IsLeft (Some (Err OutOfMemory)) past client rest = ⊥
 IsLeft (Some (Err (Log fault))) past client rest = ⊥
@@ -231,6 +242,19 @@ pub record ServesTurn (Served : List (Key × Call) → List (Key × Call) → Pa
   pub all : IfSome here (λ count. length arrivals ≡ min count (length old))
   pub taken : TakesArrivals Served old_log old arrivals new_log new
 
+-- a turn that failed took arrivals from the front too, and numbered asks of frames that came, the last of
+-- them of whichever client; so the log is that of these asks
+pub record StopsTurn (opening : Rows) (coming left : Option (List (ℕ × Piece)))
+    (old_log : List (Key × Call)) (old : List ClientOf) (new_log : List (Key × Call)) : Type 0 where
+  pub arrivals : List (ℕ × Piece)
+  pub came : TakesFromFront coming left arrivals
+  pub numbered : (asks : List (Key × Call)) (past : ℕ → PastOf)
+      → AreServed (IsServed opening) asks past old_log old → (taken : List (ℕ × wire.Frame))
+      × All (λ t. IsFromClient t.1) taken × (new_log ≡ first_asks (asks ++ asks_of_all taken))
+      × ((i : ℕ) → IfSome (slice_get old i) (λ client. (rest : List ℕ)
+      × (bytes_of ((past i).pieces ++ pieces_of_client i arrivals)
+      ≡ flat_map spelling ((past i).frames ++ frames_of_client i taken) ++ rest)))
+
 -- a client was given nothing, and didn't end
 abbrev pub IsCalm : Option ClientOf → Option ClientOf → Type 0
 IsCalm None None = Unit {0}
@@ -248,14 +272,20 @@ pub record OutgoingOf : Type 0 where
   pub sent : Option (List (ℕ × List ℕ))
   pub full : ℕ → Bool
 
--- what a turn leaves: what goes out, and as many clients; and if it ended well, the whole log is
--- kept unless nobody was stirred, and nobody else was given anything, or ended
-pub record TurnLeaves (result : Result (Unit {0}) SessionFault) (outgoing_before outgoing_after : OutgoingOf)
+-- no client was given anything: each has the outcomes that it had
+abbrev pub AreUntold : List ClientOf → List ClientOf → Type 0
+AreUntold old new = map (λ client. client.outcomes) new ≡ map (λ client. client.outcomes) old
+
+-- what a turn leaves: what goes out, and as many clients; if it ended well, the whole log is kept
+-- unless nobody was stirred, and nobody else was given anything, or ended; and if the log can't be
+-- kept, nobody was given anything
+pub record TurnLeaves (result : Result (Unit {0}) TurnFault) (outgoing_before outgoing_after : OutgoingOf)
     (Kept : Type 0) (old : List ClientOf) (new : ClientsOf) : Type 0 where
   pub outgoing : outgoing_after ≡ outgoing_before
   pub as_many : length new.all ≡ length old
   pub stirred : OnOk result (Kept ⊎ (new.stirred ≡ []))
   pub calm : OnOk result (AreCalmBut new.stirred old new.all)
+  pub untold : IfErr result (λ fault. IsLogFault fault → AreUntold old new.all)
 
 -- the bytes of a read at the front of a chunk, or none if it failed
 abbrev pub piece_of : List ℕ → Option ℕ → Piece

@@ -10,7 +10,6 @@ use Rattle.sb_frames.specs.Grammar.{IsFrame, spelling}
 use Rattle.sb_frames.specs.declared.frame.Frame as frames
 use Rattle.bank_server.specs.Pending.{unflushed_asks}
 use Rattle.bank_server.specs.Session.{IsAskFrame, IsFromClient, log_of_session, outcomes_of}
-use Rattle.bank_server.specs.declared.session.TheConstants.{ASKS_OF_SESSION}
 use Rattle.bank_server.specs.declared.session.session_fault.SessionFault.{SessionFault}
 use Rattle.bank_server.specs.declared.session.session_fault.SessionFault.TheVariants.{Frame, Unexpected, CrewGone, Device, OutOfMemory, Log, TooMany}
 
@@ -65,5 +64,5 @@ pub record ServesUntilFault (opening : Rows) (before log : List (Key × Call))
   pub input_is : input ≡ flat_map spelling frames ++ rest
   pub at : IsFaultAt fault rest
   -- after TooMany exactly this many of their asks wait for a flush
-  pub many : fault ≡ TooMany → length (unflushed_asks frames) ≡ ASKS_OF_SESSION
+  pub many : fault ≡ TooMany → length (unflushed_asks frames) ≡ 2000000
   pub outcomes : WritesOutcomesBefore fault opening before frames log old new

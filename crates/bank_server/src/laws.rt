@@ -5,7 +5,7 @@ ghost use Rattle.bank_server.specs.Session.{ToldOutcomesStand};
 ghost use Rattle.std.specs.Prelude.{◌≡◌};
 
 use crate::followers::COMPARED_ENTRIES;
-use crate::session::{ASKS_BEFORE_FLUSH, ASKS_OF_SESSION, READ_BYTES, UNREAD_BYTES};
+use crate::session::READ_BYTES;
 
 /// The sequencer's answer to an ask (a new number, a repeat, a mismatch or a full log) is its
 /// standing in the log for good, and so in the output, whatever is asked after it.
@@ -30,10 +30,7 @@ pub fn limits()
     ensures { COMPARED_ENTRIES ≡ 65536 }
 {}
 
-/// The bounds of a client that is served beside others, and of one that is served alone.
+/// How much of a client a turn reads at once.
 pub fn client_bounds()
-    ensures asks { ASKS_BEFORE_FLUSH ≡ 65536 }
-    ensures session { ASKS_OF_SESSION ≡ 2000000 }
-    ensures unread { UNREAD_BYTES ≡ 4194304 }
     ensures read { READ_BYTES ≡ 65536 }
 {}

@@ -21,6 +21,6 @@ pub use laws::{answers_are_final, client_bounds, comparisons_add_up, limits, tol
 pub use node0::{AskCounts, Duty, Primary, SaveFault, WorkerCount, carry_out_log, with_team};
 pub use run::run_text;
 pub use session::{
-    ASKS_BEFORE_FLUSH, ASKS_OF_SESSION, Arrival, Arrivals, Clients, PendingAsk, READ_BYTES,
-    SessionFault, UNREAD_BYTES, serve_session,
+    Arrival, Arrivals, ClientLimits, Clients, PendingAsk, READ_BYTES, SessionFault, TurnFault,
+    serve_session,
 };

@@ -2,6 +2,7 @@
 
 mod arrivals;
 mod client;
+mod client_limits;
 mod clients;
 mod inbox;
 mod outcome_frames;
@@ -9,22 +10,16 @@ mod places;
 mod session_fault;
 mod single_session;
 mod telling;
+mod turn_fault;
 mod turns;
 
 pub use arrivals::{Arrival, Arrivals};
+pub use client_limits::ClientLimits;
 pub use clients::Clients;
 pub use inbox::PendingAsk;
 pub use session_fault::SessionFault;
 pub use single_session::serve_session;
-
-/// The most asks of a client that may wait for a flush of its own, if it is served beside others.
-pub const ASKS_BEFORE_FLUSH: usize = 65_536;
-
-/// The most asks of a client that may wait for a flush, if it is served alone.
-pub const ASKS_OF_SESSION: usize = 2_000_000;
-
-/// The most bytes of outcomes that a client may leave unread.
-pub const UNREAD_BYTES: usize = 4_194_304;
+pub use turn_fault::TurnFault;
 
 /// The most bytes of a client that a turn takes in one read.
 pub const READ_BYTES: usize = 65_536;

@@ -1,40 +1,11 @@
 -- A bank after its sessions.
-use Rattle.std.proofs.Common.{ℕ, ◌+◌, Bool, false, refl, ◌∙◌, arith}
+use Rattle.std.proofs.Common.{ℕ, Bool, false, refl, ◌∙◌}
 use Rattle.sb_checkpoint.specs.Stores.{StoreModel}
 use Rattle.sb_ask_log.specs.Keeping.{KeeperModel}
-use Rattle.sb_sequencer.specs.Numbering.{IsLog}
-use Rattle.bank_server.specs.Primary.{HasWholeLog, PrimaryOf}
+use Rattle.bank_server.specs.Primary.{PrimaryOf}
 use Rattle.bank_service.specs.ServedBank.{IsBankAfter}
 
 module _ {S K : Type 0} (model : StoreModel S) (keeper : KeeperModel K) where
-  -- before any session
-  pub left_at_first : (saves : Bool) (bank : PrimaryOf S K) → IsLog bank.log → HasWholeLog bank → keeper.Keeps bank.keeper bank.log
-      → IsBankAfter model keeper saves 0 bank bank
-  left_at_first saves bank one_each all told = record {
-    bank = record { names = refl; opening = refl };
-    one_each = one_each;
-    all = all;
-    kept_log = told;
-    text = refl;
-    kept = record { honest = λ honest. honest; stored = λ s some honest. absurd (omega (arith, some)); unchanged = λ s. refl };
-  }
-
-  -- one more session
-  pub left_after_next : (saves : Bool) (count : ℕ) (old mid new : PrimaryOf S K) → IsBankAfter model keeper saves count old mid
-      → IsBankAfter model keeper saves 1 mid new → IsBankAfter model keeper saves (count + 1) old new
-  left_after_next saves count old mid new first next = record {
-    bank = record { names = next.bank.names ∙ first.bank.names; opening = next.bank.opening ∙ first.bank.opening };
-    one_each = next.one_each;
-    all = next.all;
-    kept_log = next.kept_log;
-    text = next.text ∙ first.text;
-    kept = record {
-      honest = λ honest. next.kept.honest (first.kept.honest honest);
-      stored = λ s some honest. next.kept.stored s (omega arith) (first.kept.honest honest);
-      unchanged = λ s. next.kept.unchanged s ∙ first.kept.unchanged s;
-    };
-  }
-
   -- behind the step that only executes the log
   pub left_behind_first : (saves : Bool) (count : ℕ) (old mid new : PrimaryOf S K) → IsBankAfter model keeper false 1 old mid
       → IsBankAfter model keeper saves count mid new → IsBankAfter model keeper saves count old new

@@ -4,6 +4,4 @@ pub mod FoundBanks
 pub mod GoneCrews
 pub mod PrintedLines
 pub mod ServingAtOnce
-pub mod SessionsInOrder
-pub mod UnheardClients
 pub mod WholeOpenings

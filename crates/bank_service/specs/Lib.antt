@@ -7,6 +7,5 @@ pub mod ServeFaults
 pub mod ServeOutput
 pub mod ServedAtOnce
 pub mod ServedBank
-pub mod Sessions
 pub mod StoreAfter
 pub mod inner

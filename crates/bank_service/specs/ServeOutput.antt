@@ -1,6 +1,5 @@
 -- What a served bank prints.
-use Rattle.std.specs.Prelude.{◌≡◌, ℕ, ◌+◌, Option, Some, None, IfSome, Ok, Err, List, [], ◌∷◌, ◌++◌, length, decimal, codes}
-use Rattle.std.specs.List.{All}
+use Rattle.std.specs.Prelude.{ℕ, ◌+◌, Option, Some, None, Ok, Err, List, [], ◌∷◌, ◌++◌, length, decimal, codes}
 use Rattle.std.specs.Io.KnownBytes.{Appends}
 use Rattle.std.specs.Net.Addr.{ipv4_octets, ipv6_segments}
 use Rattle.std.specs.Net.Text.{ipv4_text, ipv6_text}
@@ -19,7 +18,6 @@ use Rattle.sb_sequencer.specs.Numbering.{calls_of}
 use Rattle.bank_server.specs.SessionFaults.{session_fault_number}
 use Rattle.bank_server.specs.declared.session.session_fault.SessionFault.TheVariants.{Frame, Unexpected, CrewGone, Device, OutOfMemory, Log, TooMany}
 use Rattle.bank_server.specs.Clients.{End}
-use Rattle.bank_service.specs.Sessions.{ListenerClients, ServesFirst}
 
 -- a session that ended so lets the server go on
 abbrev pub ServerContinues : End → Type 0
@@ -46,10 +44,6 @@ unfoldable pub session_lines : ℕ → List End → List (List ℕ)
 session_lines first [] = []
 session_lines first (end ∷ ends) = session_line first end ∷ session_lines (first + 1) ends
 
--- this is the port of a listener, if the listener says where it listens
-abbrev pub IsPortOf : Option ℕ → ℕ → Type 0
-IsPortOf at port = IfSome at (λ known. port ≡ known)
-
 -- an address as it stands before a port
 abbrev pub host_text : IpAddr → List ℕ
 host_text (V4 address) = ipv4_text (ipv4_octets address)
@@ -73,20 +67,3 @@ PrintsLines lines old new = Appends old new (unlines lines)
 -- the rows after a log that is executed one by one, and their total
 abbrev pub end_lines : List (List ℕ) → Balances → List (Key × Call) → List (List ℕ)
 end_lines names opening log = row_lines names (rows_after (calls_of log) (rows_of names opening))
-
--- a bank with this opening and this log before is served at a port of this host to this many who come,
--- and has this log then. Each client gets the outcomes of its session. The bank prints the log's line, if
--- it has one, the port, how each session ended, the log's line again, and the rows after the log, executed
--- one by one
-pub record ServesBank {R W : Type 0} (sends : R → Option (List ℕ)) (gets : W → Option (List ℕ))
-    (names : List (List ℕ)) (opening : Balances) (count : ℕ) (host : IpAddr) (at : Option ℕ)
-    (clients then : Option (ListenerClients R W))
-    (before log : List (Key × Call)) (text : Option (List ℕ)) (old new : Option (List ℕ)) : Type 0 where
-  pub port : ℕ
-  pub listens : IsPortOf at port
-  pub ends : List End
-  pub all : length ends ≡ count
-  pub go_on : All ServerContinues ends
-  pub heard : ServesFirst sends gets (rows_of names opening) clients then before ends log
-  pub printed : PrintsLines (log_lines text before ++ (port_line host port ∷ session_lines 1 ends
-      ++ log_lines text log ++ end_lines names opening log)) old new

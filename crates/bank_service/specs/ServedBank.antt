@@ -1,13 +1,10 @@
 -- A served bank: its output, and what is left of it.
-use Rattle.std.specs.Prelude.{◌≡◌, ℕ, Bool, false, Option, List}
+use Rattle.std.specs.Prelude.{◌≡◌, ℕ, Bool}
 use Rattle.sb_checkpoint.specs.Stores.{StoreModel}
 use Rattle.sb_ask_log.specs.Keeping.{KeeperModel}
 use Rattle.bank_server.specs.Primary.{HasWholeLog, PrimaryOf}
 use Rattle.sb_sequencer.specs.Numbering.{IsLog}
-use Rattle.bank_service.specs.ServeOutput.{ServesBank}
-use Rattle.bank_service.specs.Sessions.{ListenerClients}
 use Rattle.bank_service.specs.StoreAfter.{IsStoreAfter}
-use Rattle.program_words.specs.declared.plan.Plan.{Plan}
 
 -- the bank has the same names, over the same opening
 pub record IsSameBank {S K : Type 0} (old new : PrimaryOf S K) : Type 0 where
@@ -24,16 +21,3 @@ pub record IsBankAfter {S K : Type 0} (model : StoreModel S) (keeper : KeeperMod
   pub kept_log : keeper.Keeps new.keeper new.log
   pub text : keeper.opening new.keeper ≡ keeper.opening old.keeper
   pub kept : IsStoreAfter model saves sessions old.node.store new.node
-
--- a bank is served by this plan: first its log is executed and kept; then its output and its log are as
--- `ServesBank` says, with the opening of its file, and what is left of it is as `IsBankAfter` says
-pub record ServesByPlan {R W S K : Type 0} (sends : R → Option (List ℕ)) (gets : W → Option (List ℕ))
-    (model : StoreModel S) (keeper : KeeperModel K) (plan : Plan) (at : Option ℕ)
-    (clients then : Option (ListenerClients R W)) (before after : PrimaryOf S K) (old new : Option (List ℕ))
-    : Type 0 where
-  pub opened : PrimaryOf S K
-  pub at_first : IsBankAfter model keeper false 1 before opened
-  pub same_log : opened.log ≡ before.log
-  pub bank : ServesBank sends gets before.node.names before.node.board.opening plan.sessions plan.host at clients then
-      before.log after.log (keeper.opening before.keeper) old new
-  pub left : IsBankAfter model keeper plan.saves plan.sessions before after

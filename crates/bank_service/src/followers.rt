@@ -5,7 +5,6 @@ ghost use Rattle.bank_server.specs.Primary.{PreservesBank};
 ghost use Rattle.bank_service.specs.ServeFaults.{IsServingFault};
 
 use crate::serve_fault::ServeFault;
-use crate::session_end::settle_log;
 use bank_server::{COMPARED_ENTRIES, Followers, Primary};
 use cown_workers::Crew;
 use sb_ask_log::Keeper;
@@ -53,7 +52,7 @@ pub(crate) fn compare_if_due<R: Wait, S: CheckpointStore, K: Keeper, C: Crew>(
     if !followers.is_comparison_due(primary.log().length()) {
         return Ok(());
     }
-    settle_log(primary, crew)?;
+    primary.settle(crew)?;
     followers.feed(primary.log())?;
     Ok(followers.compare(primary.node())?)
 }

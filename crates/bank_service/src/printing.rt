@@ -4,9 +4,8 @@ ghost use Rattle.hex.specs.Hex.{encode_lower};
 ghost use Rattle.bank_server.specs.Primary.{HasWholeLog};
 ghost use Rattle.bank_service.specs.inner.StepFaults.{IsPrintFault};
 ghost use Rattle.bank_service.specs.ServeOutput.{PrintsLines, end_text, host_text, port_line, session_line};
-ghost use Rattle.bank_service.specs.inner.ServeSteps.{PrintsLog, PrintsPort, PrintsRows};
+ghost use Rattle.bank_service.specs.inner.ServeSteps.{PrintsLog, PrintsRows};
 
-use crate::listener::ClientListener;
 use crate::serve_fault::ServeFault;
 use bank_server::{Primary, SessionFault};
 use cown_board::Runs;
@@ -18,27 +17,10 @@ use std::alloc::{AllocError, Global};
 use std::io::Write;
 use std::net::IpAddr;
 
-/// Prints the address where the server listens, at this host.
-///
-/// Fails if the port can't be found out, if a write fails, or if memory is refused.
-pub(crate) fn print_port<D: ClientListener, W: Write>(
-    alloc: Global,
-    host: IpAddr,
-    listener: &D,
-    writer: &mut W,
-) -> Result<(), ServeFault>
-    ensures printed { OnOk result (PrintsPort host (D.listens_at listener.now)
-        (W.contents writer.old) (W.contents writer.new)) }
-    ensures fault { IfErr result IsPrintFault }
-{
-    let port = listener.port()?;
-    print_port_number(alloc, host, port, writer)
-}
-
 /// Prints the address of a server that listens at this port of this host.
 ///
 /// Fails if a write fails, or if memory is refused.
-pub(crate) fn print_port_number<W: Write>(
+pub(crate) fn print_port<W: Write>(
     alloc: Global,
     host: IpAddr,
     port: u16,

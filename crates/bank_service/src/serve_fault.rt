@@ -1,10 +1,11 @@
 //! Why a bank isn't served.
 ghost use Rattle.std.specs.Prelude.{◌≡◌};
 ghost use Rattle.bank_server.specs.inner.RunFaults.{run_of_crew_fault, run_of_read_fault};
+ghost use Rattle.bank_service.specs.inner.StepFaults.{serve_of_turn_fault};
 ghost use Rattle.bank_server.specs.declared.fault.RunFault.TheVariants.{Device, OutOfMemory};
 ghost use Rattle.bank_service.specs.declared.serve_fault.ServeFault.TheVariants.{Log, Run};
 
-use bank_server::RunFault;
+use bank_server::{RunFault, TurnFault};
 use cown_workers::CrewFault;
 use sb_log::LogFault;
 use sb_text::ReadFault;
@@ -61,6 +62,17 @@ impl From<CrewFault> for ServeFault {
 
     fn from(crew: CrewFault) -> ServeFault {
         ServeFault::Run(RunFault::from(crew))
+    }
+}
+
+impl From<TurnFault> for ServeFault {
+    ghost from_gives = { λ turn fault. fault ≡ serve_of_turn_fault turn };
+
+    fn from(turn: TurnFault) -> ServeFault {
+        match turn {
+            TurnFault::Crew(crew) => ServeFault::from(crew),
+            TurnFault::Log(log) => ServeFault::Log(log),
+        }
     }
 }
 

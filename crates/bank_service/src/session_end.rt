@@ -1,13 +1,13 @@
 //! What a bank does after a session.
 ghost use Rattle.std.specs.Prelude.{◌≡◌, ◌≤◌, false, length, true, IfErr, OnOk};
 ghost use Rattle.cown_workers.specs.Draining.{HasNoneOut};
-ghost use Rattle.bank_server.specs.Primary.{HasWholeLog, PreservesBank};
+ghost use Rattle.bank_server.specs.Primary.{HasWholeLog};
 ghost use Rattle.sb_sequencer.specs.Numbering.{IsLog};
 ghost use Rattle.bank_service.specs.ServedBank.{IsBankAfter};
 ghost use Rattle.bank_service.specs.ServeFaults.{IsFinishFault};
 
 use crate::serve_fault::ServeFault;
-use bank_server::{Followers, Primary, RunFault, SaveFault, SessionFault};
+use bank_server::{Followers, Primary, RunFault, SaveFault};
 use cown_workers::Crew;
 use sb_ask_log::Keeper;
 use sb_checkpoint::CheckpointStore;
@@ -34,49 +34,10 @@ pub(crate) fn finish_session<R: Wait, S: CheckpointStore, K: Keeper, C: Crew>(
     ensures fault { IfErr result (IsFinishFault (C.keeps ≡ false → ¬ HasNoneOut primary.old.node.board)
         saves K.model.fails) }
 {
-    settle_log(primary, crew)?;
-    keep_log(primary)?;
+    primary.settle(crew)?;
+    primary.keep()?;
     followers.feed(primary.log())?;
     if saves { save(primary) } else { Ok(()) }
-}
-
-// Has the whole log kept.
-fn keep_log<S: CheckpointStore, K: Keeper>(primary: &mut Primary<S, K>) -> Result<(), ServeFault>
-    ensures kept { OnOk result (K.model.Keeps primary.new.keeper primary.new.log) }
-    ensures unchanged { primary.new ≡ record primary.old { keeper = primary.new.keeper } }
-    ensures text { K.model.opening primary.new.keeper ≡ K.model.opening primary.old.keeper }
-    ensures fault { IfErr result (IsFinishFault ⊥ false K.model.fails) }
-{
-    match primary.keep() {
-        Ok(()) => Ok(()),
-        Err(SessionFault::Log(fault)) => Err(ServeFault::Log(fault)),
-        // Nothing else fails.
-        Err(_) => unreachable!(),
-    }
-}
-
-/// Has node 0 execute the whole log.
-///
-/// Fails with [`ServeFault::Run`] if the crew is gone, or memory is refused.
-pub(crate) fn settle_log<S: CheckpointStore, K: Keeper, C: Crew>(
-    primary: &mut Primary<S, K>,
-    crew: &mut C,
-) -> Result<(), ServeFault>
-    ensures bank { PreservesBank K.model primary.old primary.new }
-    ensures log { primary.new.log ≡ primary.old.log }
-    ensures one_each { IsLog primary.new.log }
-    ensures whole_log { OnOk result (HasWholeLog primary.new) }
-    ensures none_out { C.keeps ≡ false → HasNoneOut primary.old.node.board → HasNoneOut primary.new.node.board }
-    ensures fault { IfErr result (IsFinishFault (C.keeps ≡ false → ¬ HasNoneOut primary.old.node.board)
-        false K.model.fails) }
-{
-    match primary.settle(crew) {
-        Ok(()) => Ok(()),
-        Err(SessionFault::CrewGone) => Err(ServeFault::Run(RunFault::CrewGone)),
-        Err(SessionFault::OutOfMemory) => Err(ServeFault::Run(RunFault::OutOfMemory)),
-        // No client is read from or written to.
-        Err(_) => unreachable!(),
-    }
 }
 
 // Puts a checkpoint of node 0 into its store.

@@ -1,16 +1,15 @@
 //! Clients in memory, who connect one after another.
 ghost use Rattle.std.specs.Counts.{IsPrefixLen};
-ghost use Rattle.std.specs.Prelude.{IfOk, OnOk, Some};
-ghost use Rattle.bank_service.specs.Sessions.{LeavesClient};
+ghost use Rattle.std.specs.Prelude.{IfOk};
 
+use crate::serving::HERE;
+use bank_clients::{SessionNotes, Traffic};
 use bank_server::AskCounts;
-use bank_service::{ClientListener, ClientStream};
-use std::alloc::{AllocError, Global};
+use std::alloc::Global;
 use std::cell::{Cell, RefCell};
-use std::collections::VecDeque;
 use std::io;
 use std::io::{ErrorKind, Read, Write};
-use std::net::{OpenStream, Shutdown};
+use std::net::{OpenListener, OpenStream, Shutdown, SocketAddr};
 use std::time::Duration;
 
 /// How a client's stream behaves.
@@ -18,10 +17,16 @@ use std::time::Duration;
 pub(crate) enum Manner {
     /// It gives all bytes that were sent.
     Plain,
+    /// It is gone before it is accepted.
+    Gone,
     /// It can't be set up.
     Stubborn,
-    /// It takes nothing.
+    /// Its writes fail.
     Deaf,
+    /// Its writes take nothing.
+    Full,
+    /// Each second read and write is interrupted, and a write takes three bytes at most.
+    Fitful,
     /// It breaks once all bytes that were sent are read.
     Broken,
     /// After these bytes it sends one at each read, for ever.
@@ -39,7 +44,7 @@ impl Manner {
             Manner::Broken => return Err(io::Error::from(ErrorKind::ConnectionReset)),
             Manner::Drip => buf.len().min(1),
             Manner::Flood => buf.len(),
-            Manner::Plain | Manner::Stubborn | Manner::Deaf => 0,
+            _ => 0,
         };
         buf[..count].fill(b'.');
         Ok(count)
@@ -53,11 +58,19 @@ pub(crate) struct Client<'a> {
     pub(crate) manner: Manner,
 }
 
-/// Everything that is sent to clients, how often the server hangs up before they do, how many reads
-/// it makes after that, and how long it waited for each of them, at a read and at a write.
+/// A client who gives all that it sends.
+pub(crate) fn plain(sent: &[u8]) -> Client<'_> {
+    let manner = Manner::Plain;
+    Client { sent, manner }
+}
+
+/// Everything that is sent to clients, the asks of each one, and how many of its bytes were read and written,
+/// how often the server hangs up before they do, how many reads it makes after that, and how long it waited
+/// for each of them, at a read and at a write.
 #[derive(Drop)]
 pub(crate) struct Transcript {
     pub(crate) bytes: RefCell<Vec<u8>>,
+    pub(crate) noted: RefCell<Vec<(AskCounts, u64, u64)>>,
     pub(crate) hung_up: Cell<usize>,
     pub(crate) late_reads: Cell<usize>,
     pub(crate) read_limit: Cell<Option<Duration>>,
@@ -69,6 +82,7 @@ impl Transcript {
     pub(crate) fn new(alloc: Global) -> Transcript {
         Transcript {
             bytes: RefCell::new(Vec::new(alloc)),
+            noted: RefCell::new(Vec::new(alloc)),
             hung_up: Cell::new(0),
             late_reads: Cell::new(0),
             read_limit: Cell::new(None),
@@ -77,18 +91,44 @@ impl Transcript {
     }
 }
 
-/// Where the server reads what a client sends.
+/// Where sessions are noted.
 #[derive(Drop)]
-pub(crate) struct End<'c, 't> {
-    client: Client<'c>,
-    told: &'t Transcript,
+pub(crate) struct Notes<'a> {
+    pub(crate) told: &'a Transcript,
 }
 
-impl Read for End<'_, '_> {
+impl SessionNotes for Notes<'_> {
+    fn note_session(&self, counts: AskCounts, traffic: Traffic) {
+        if let Ok(mut noted) = self.told.noted.try_borrow_mut() {
+            let _ = noted.push((counts, traffic.read, traffic.written));
+        }
+    }
+}
+
+/// The server's end of a client's stream.
+#[derive(Drop)]
+pub(crate) struct End<'a> {
+    client: Client<'a>,
+    is_odd: bool,
+    told: &'a Transcript,
+}
+
+impl End<'_> {
+    // Whether a read or a write is interrupted.
+    fn is_interrupted(&mut self) -> bool {
+        self.is_odd = !self.is_odd;
+        self.is_odd && self.client.manner == Manner::Fitful
+    }
+}
+
+impl Read for End<'_> {
     fn read(&mut self, buf: &mut [u8]) -> io::Result<usize> {
         if self.told.hung_up.get() > 0 {
             let reads = self.told.late_reads.get();
             self.told.late_reads.set(reads.wrapping_add(1));
+        }
+        if self.is_interrupted() {
+            return Err(io::Error::from(ErrorKind::Interrupted));
         }
         let count = self.client.sent.len().min(buf.len()).min(3);
         if count == 0 {
@@ -101,23 +141,22 @@ impl Read for End<'_, '_> {
     }
 }
 
-/// Where the server writes what a client gets.
-#[derive(Drop)]
-pub(crate) struct Ear<'t> {
-    manner: Manner,
-    told: &'t Transcript,
-}
-
-impl Write for Ear<'_> {
+impl Write for End<'_> {
     fn write(&mut self, buf: &[u8]) -> io::Result<usize> {
-        if self.manner == Manner::Deaf {
-            return Err(io::Error::from(ErrorKind::BrokenPipe));
+        if self.is_interrupted() {
+            return Err(io::Error::from(ErrorKind::Interrupted));
         }
+        let count = match self.client.manner {
+            Manner::Deaf => return Err(io::Error::from(ErrorKind::BrokenPipe)),
+            Manner::Full => 0,
+            Manner::Fitful => buf.len().min(3),
+            _ => buf.len(),
+        };
         let Ok(mut bytes) = self.told.bytes.try_borrow_mut() else {
             return Err(io::Error::from(ErrorKind::Other));
         };
-        bytes.extend_from_slice(buf)?;
-        Ok(buf.len())
+        bytes.extend_from_slice(&buf[..count])?;
+        Ok(count)
     }
 
     fn flush(&mut self) -> io::Result<()> {
@@ -125,7 +164,7 @@ impl Write for Ear<'_> {
     }
 }
 
-impl OpenStream for End<'_, '_> {
+impl OpenStream for End<'_> {
     fn set_nodelay(&self, _nodelay: bool) -> io::Result<()> {
         if self.client.manner == Manner::Stubborn {
             return Err(io::Error::from(ErrorKind::InvalidInput));
@@ -151,62 +190,31 @@ impl OpenStream for End<'_, '_> {
     }
 }
 
-/// The server's end of a client's stream.
-pub(crate) type Stream<'c, 't> = ClientStream<End<'c, 't>, Ear<'t>>;
-
-/// Lets clients in, in order. After the last one it lets nobody in.
+/// Lets clients in, in order. After the last one its device fails.
 #[derive(Drop)]
-pub(crate) struct TestListener<'c, 't> {
-    coming: VecDeque<Stream<'c, 't>>,
-    left: Vec<Stream<'c, 't>>,
+pub(crate) struct TestListener<'a> {
+    pub(crate) clients: &'a [Client<'a>],
+    pub(crate) next: Cell<usize>,
+    pub(crate) told: &'a Transcript,
 }
 
-impl<'c, 't> TestListener<'c, 't> {
-    /// The listener for these clients, and where their answers go.
-    pub(crate) fn of(
-        alloc: Global,
-        clients: &[Client<'c>],
-        told: &'t Transcript,
-    ) -> Result<TestListener<'c, 't>, AllocError> {
-        let mut coming = VecDeque::new(alloc);
-        for client in clients {
-            let client = *client;
-            let manner = client.manner;
-            coming.push_back(ClientStream {
-                reader: End { client, told },
-                writer: Ear { manner, told },
-            })?;
+impl<'a> OpenListener for TestListener<'a> {
+    type Stream = End<'a>;
+
+    fn accept(&self) -> io::Result<(End<'a>, SocketAddr)> {
+        let next = self.next.get();
+        self.next.set(next.wrapping_add(1));
+        let Some(client) = self.clients.get(next) else {
+            return Err(io::Error::from(ErrorKind::OutOfMemory));
+        };
+        if client.manner == Manner::Gone {
+            return Err(io::Error::from(ErrorKind::ConnectionAborted));
         }
-        let left = Vec::new(alloc);
-        Ok(TestListener { coming, left })
-    }
-}
-
-impl<'c, 't> ClientListener for TestListener<'c, 't> {
-    type Reader = End<'c, 't>;
-
-    type Writer = Ear<'t>;
-
-    ghost clients = { λ listener. Some (record { coming = listener.coming.items; left = listener.left.items }) };
-
-    ghost listens_at = { λ listener. Some 4000 };
-
-    fn accept_client(&mut self) -> io::Result<Stream<'c, 't>> {
-        match self.coming.pop_front() {
-            Some(client) => Ok(client),
-            None => Err(io::Error::from(ErrorKind::ConnectionAborted)),
-        }
-    }
-
-    fn leave_client(&mut self, client: Stream<'c, 't>, _counts: AskCounts) -> io::Result<()>
-        ensures left { OnOk result (LeavesClient client.entry
-            (Some (record { coming = self.old.coming.items; left = self.old.left.items }))
-            (Some (record { coming = self.new.coming.items; left = self.new.left.items }))) }
-    {
-        Ok(self.left.push(client)?)
-    }
-
-    fn port(&self) -> io::Result<u16> {
-        Ok(4000)
+        let end = End {
+            client: *client,
+            is_odd: false,
+            told: self.told,
+        };
+        Ok((end, SocketAddr::new(HERE, 4000)))
     }
 }

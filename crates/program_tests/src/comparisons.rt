@@ -2,11 +2,10 @@
 ghost use Rattle.std.specs.Prelude.{◌≡◌, ◌≤◌, ◌<◌, ◌+◌, [], length, None, true};
 ghost use Rattle.sb_calls.specs.declared.nodes.TheConstants.{REPLICAS};
 
-use crate::clients::{TestListener, Transcript};
-use crate::served::{HERE, bank_of, plain};
-use bank_clients::{Connections, Sessions};
+use crate::serving::{PLAN, bank_of, server_over};
+use bank_clients::Connections;
 use bank_server::{Arrival, Arrivals, AskCounts, ReadyFollowers, RunFault, StrayReason};
-use bank_service::{ManyServer, ServeFault, Server, serve_beside, serve_many_beside};
+use bank_service::{ServeFault, serve_beside};
 use program_words::Plan;
 use std::alloc::Global;
 use std::cell::Cell;
@@ -20,18 +19,6 @@ const OPENING: &[u8] = b"alice 100.00 50.00\ndave 1.00 1.00\nbegin\n";
 
 // Another name for the same balances: what differs is the reply to a call that names dave.
 const OTHER_NAME: &[u8] = b"alice 100.00 50.00\ndora 1.00 1.00\nbegin\n";
-
-// Four nodes, which serve one session.
-const PLAN: Plan = Plan {
-    host: HERE,
-    sessions: 1,
-    clients: None,
-    nodes: 4,
-    workers: 0,
-    saves: false,
-    patience: None,
-    is_quiet: true,
-};
 
 // Adds a follower that begins with this opening.
 fn add_follower(rt: &impl Abort, alloc: Global, ready: &mut ReadyFollowers, opening: &[u8])
@@ -91,55 +78,12 @@ fn asks(rt: &impl Abort, alloc: Global, first: u32, last: u32, deposit: u32, eac
 
 const FLUSH: &[u8] = b"\x00\x01\x06";
 
-// How a server of three clients, one after another, ends, and what it printed. The first two have 65,536
-// asks each, of which the second one's first is the deposit.
-fn serve_three(
-    rt: &(impl Abort + Threads + Wait + Clock + Sync),
-    alloc: Global,
-    second: &[u8],
-) -> (Result<(), ServeFault>, Vec<u8>) {
-    let told = Transcript::new(alloc);
-    let before = asks(rt, alloc, 1, 65_536, 65_537, 65_536);
-    let behind = asks(rt, alloc, 65_537, 131_072, 65_537, 65_536);
-    let clients = [plain(&before), plain(&behind), plain(b"")];
-    let mut printed = Vec::new(alloc);
-    let server = Server {
-        alloc,
-        plan: Plan {
-            sessions: 3,
-            ..PLAN
-        },
-        listener: TestListener::of(alloc, &clients, &told).expect(rt, "a listener"),
-        primary: Box::into_inner(bank_of(rt, alloc, OPENING)),
-        writer: &mut printed,
-    };
-    let ended = serve_beside(rt, three(rt, alloc, second), server).map(|_| ());
-    (ended, printed)
-}
-
-#[test]
-fn a_server_compares_as_it_goes_on(rt: HostRuntime) {
-    let (ended, printed) = serve_three(&rt, rt.alloc(), OPENING);
-    assert!(&rt; ended == Ok(()));
-    let wanted = b"listening 127.0.0.1:4000\nsession 1 ok\nsession 2 ok\nsession 3 ok\n\
-        alice 100.00 50.00\ndave 1.00 2.00\ntotal 153.00\n";
-    assert!(&rt; printed.as_slice() == wanted.as_slice());
-}
-
-// The second comparison is before the third client.
-#[test]
-fn a_server_ends_once_a_follower_strayed(rt: HostRuntime) {
-    let (ended, printed) = serve_three(&rt, rt.alloc(), OTHER_NAME);
-    let strayed = RunFault::Strayed(2, StrayReason::Entry(65_537));
-    assert!(&rt; ended == Err(ServeFault::Run(strayed)));
-    let wanted = b"listening 127.0.0.1:4000\nsession 1 ok\nsession 2 ok\n";
-    assert!(&rt; printed.as_slice() == wanted.as_slice());
-}
-
-// The connection of one client, from whom as many bytes arrive in each round as are taken at once.
+// The connections of two clients, one after another, from each of whom as many bytes arrive in each round as
+// are taken at once, and then its end.
 #[derive(Drop)]
 struct Wire<'a> {
-    coming: &'a [u8],
+    coming: [&'a [u8]; 2],
+    client: usize,
     is_taken: bool,
     rounds: &'a Cell<usize>,
 }
@@ -156,10 +100,12 @@ impl Arrivals for Wire<'_> {
             return None;
         }
         self.is_taken = true;
-        let count = self.coming.len().min(chunk.len());
-        let (piece, rest) = self.coming.split_at(count);
+        let client = self.client;
+        let coming = self.coming.get_mut(client)?;
+        let count = coming.len().min(chunk.len());
+        let (piece, rest) = coming.split_at(count);
         chunk[..count].copy_from_slice(piece);
-        self.coming = rest;
+        *coming = rest;
         Some(Arrival {
             client: 0,
             read: Some(count),
@@ -184,49 +130,58 @@ impl Connections for Wire<'_> {
         bytes.len()
     }
 
-    fn leave(&mut self, _place: usize, _is_at_fault: bool, _counts: AskCounts) {}
+    fn leave(&mut self, _place: usize, _is_at_fault: bool, _counts: AskCounts) {
+        self.client = self.client.wrapping_add(1);
+    }
 }
 
-// How a server of many clients ends, and after how many rounds. Its only client has 150,000 asks, of which
-// the 70,001st is the deposit, and a flush behind each 10,000.
+// How a server of two clients ends, what it prints, and after how many rounds. They have 70,000 and 80,000
+// asks, of which the second one's first is the deposit, and a flush behind each 10,000.
 fn serve_rounds(
     rt: &(impl Abort + Threads + Wait + Clock + Sync),
     alloc: Global,
     second: &[u8],
-) -> (Result<(), ServeFault>, usize) {
+) -> (Result<(), ServeFault>, Vec<u8>, usize) {
     let rounds = Cell::new(0);
-    let coming = asks(rt, alloc, 1, 150_000, 70_001, 10_000);
+    let before = asks(rt, alloc, 1, 70_000, 70_001, 10_000);
+    let behind = asks(rt, alloc, 70_001, 150_000, 70_001, 10_000);
     let wire = Wire {
-        coming: &coming,
+        coming: [&before, &behind],
+        client: 0,
         is_taken: false,
         rounds: &rounds,
     };
-    let server = ManyServer {
-        alloc,
-        plan: PLAN,
-        port: 4000,
-        sessions: Sessions::open(alloc, wire, 1).expect(rt, "sessions"),
-        primary: Box::into_inner(bank_of(rt, alloc, OPENING)),
-        writer: Vec::new(alloc),
+    let plan = Plan {
+        sessions: 2,
+        ..PLAN
     };
-    let ended = serve_many_beside(rt, three(rt, alloc, second), server).map(|_| ());
-    (ended, rounds.get())
+    let mut printed = Vec::new(alloc);
+    let bank = bank_of(rt, alloc, OPENING);
+    let server = server_over(rt, alloc, wire, 1, bank, plan, &mut printed);
+    let ended = serve_beside(rt, three(rt, alloc, second), Box::into_inner(server)).map(|_| ());
+    (ended, printed, rounds.get())
 }
 
 // In a round 65,536 bytes arrive, which are 3,640 asks or one more. The 19th has the 65,536th ask, and no
-// flush: node 0 executes first what nobody waits for. The client ends in the 43rd round.
+// flush: node 0 executes first what nobody waits for. The first client ends in the 21st round, the second one
+// 23 rounds later.
 #[test]
-fn a_server_of_many_compares_as_it_goes_on(rt: HostRuntime) {
-    let (ended, rounds) = serve_rounds(&rt, rt.alloc(), OPENING);
+fn a_server_compares_as_it_goes_on(rt: HostRuntime) {
+    let (ended, printed, rounds) = serve_rounds(&rt, rt.alloc(), OPENING);
     assert!(&rt; ended == Ok(()));
-    assert!(&rt; rounds == 43);
+    let wanted = b"listening 127.0.0.1:4000\nsession 1 ok\nsession 2 ok\n\
+        alice 100.00 50.00\ndave 1.00 2.00\ntotal 153.00\n";
+    assert!(&rt; printed.as_slice() == wanted.as_slice());
+    assert!(&rt; rounds == 44);
 }
 
-// The second comparison is behind the 38th round: there were 69,175 asks at the first.
+// The second comparison is behind the 39th round: there were 69,175 asks at the first.
 #[test]
-fn a_server_of_many_ends_once_a_follower_strayed(rt: HostRuntime) {
-    let (ended, rounds) = serve_rounds(&rt, rt.alloc(), OTHER_NAME);
+fn a_server_ends_once_a_follower_strayed(rt: HostRuntime) {
+    let (ended, printed, rounds) = serve_rounds(&rt, rt.alloc(), OTHER_NAME);
     let strayed = RunFault::Strayed(2, StrayReason::Entry(70_001));
     assert!(&rt; ended == Err(ServeFault::Run(strayed)));
-    assert!(&rt; rounds == 38);
+    let wanted = b"listening 127.0.0.1:4000\nsession 1 ok\n";
+    assert!(&rt; printed.as_slice() == wanted.as_slice());
+    assert!(&rt; rounds == 39);
 }

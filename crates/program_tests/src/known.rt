@@ -1,106 +1,109 @@
-//! Clients in memory, whose bytes the contracts know.
-ghost use Rattle.std.specs.Prelude.{OnOk, Some};
-ghost use Rattle.bank_service.specs.Sessions.{LeavesClient};
+//! Connections in memory, of which the contracts know what comes and what they take.
+ghost use Rattle.std.specs.Prelude.{◌≡◌, Some, [], false, length, map};
 
-use crate::served::{ASKED, DEPOSIT, GARBAGE, HERE, OPENING, TOLD};
-use bank_server::AskCounts;
-use bank_service::{ClientListener, ClientStream, serve};
+use crate::served::{ASKED, DEPOSIT, GARBAGE, OPENING, TOLD};
+use crate::serving::{PLAN, bank_of, server_over};
+use bank_clients::Connections;
+use bank_server::{Arrival, Arrivals, AskCounts};
+use bank_service::serve;
 use program_words::Plan;
-use sb_checkpoint::MemoryStore;
-use sb_rows::read_opening;
+use std::alloc::Global;
 use std::collections::VecDeque;
 use std::io;
-use std::io::{ErrorKind, Read};
-use std::net::OpenStream;
+use std::io::ErrorKind;
+use std::process::Abort;
 
-/// What a client sends.
+/// Pieces that come, each from the client at a place, and what was sent to each place. No bytes are an end.
 #[derive(Drop)]
-struct Sent<'a> {
-    bytes: &'a [u8],
+struct Known<'a, R> {
+    rt: &'a R,
+    coming: VecDeque<(usize, &'a [u8])>,
+    sent: Vec<(usize, Vec<u8>)>,
 }
 
-impl Read for Sent<'_> {
-    ghost remaining = { λ sent. Some sent.bytes.now };
+impl<R: Abort> Arrivals for Known<'_, R> {
+    ghost coming = { λ known. Some (map (λ piece. (piece.0, Some piece.1.now)) known.coming.items) };
 
-    fn read(&mut self, buf: &mut [u8]) -> io::Result<usize> {
-        self.bytes.read(buf)
+    ghost here = { λ known. Some (length known.coming.items) };
+
+    ghost outgoing = { λ known. record {
+      sent = Some (map (λ sent. (sent.0, sent.1.items)) known.sent.items);
+      full = λ place. false;
+    } };
+
+    fn next(&mut self, chunk: &mut [u8]) -> Option<Arrival> {
+        let (client, piece) = self.coming.pop_front()?;
+        assert!(self.rt; piece.len() <= chunk.len());
+        chunk[..piece.len()].copy_from_slice(piece);
+        Some(Arrival {
+            client,
+            read: Some(piece.len()),
+        })
     }
 }
 
-impl OpenStream for Sent<'_> {
-    fn set_nodelay(&self, _nodelay: bool) -> io::Result<()> {
+impl<R: Abort> Connections for Known<'_, R> {
+    ghost writable_places = { λ known. [] };
+
+    fn wait(&mut self) -> io::Result<()> {
+        if self.coming.is_empty() {
+            return Err(io::Error::from(ErrorKind::Other));
+        }
         Ok(())
     }
+
+    fn writable(&self) -> &[usize] {
+        &[]
+    }
+
+    fn send(&mut self, place: usize, bytes: &[u8]) -> usize {
+        let bytes = Vec::from_slice(*self.sent.allocator(), bytes).expect(self.rt, "memory");
+        let count = bytes.len();
+        self.sent.push((place, bytes)).expect(self.rt, "memory");
+        count
+    }
+
+    fn leave(&mut self, _place: usize, _is_at_fault: bool, _counts: AskCounts) {}
 }
 
-type Stream<'a> = ClientStream<Sent<'a>, Vec<u8>>;
-
-/// Lets clients in, in order, and keeps those who were left.
-#[derive(Drop)]
-struct Known<'a> {
-    coming: VecDeque<Stream<'a>>,
-    left: Vec<Stream<'a>>,
-}
-
-impl<'a> ClientListener for Known<'a> {
-    type Reader = Sent<'a>;
-
-    type Writer = Vec<u8>;
-
-    ghost clients = { λ listener. Some (record { coming = listener.coming.items; left = listener.left.items }) };
-
-    ghost listens_at = { λ listener. Some 4000 };
-
-    fn accept_client(&mut self) -> io::Result<Stream<'a>> {
-        match self.coming.pop_front() {
-            Some(client) => Ok(client),
-            None => Err(io::Error::from(ErrorKind::ConnectionAborted)),
+// What was sent to a place.
+fn sent_to(rt: &impl Abort, alloc: Global, place: usize, sent: &[(usize, Vec<u8>)]) -> Vec<u8> {
+    let mut all = Vec::new(alloc);
+    for (to, bytes) in sent {
+        if *to == place {
+            all.extend_from_slice(bytes).expect(rt, "memory");
         }
     }
-
-    fn leave_client(&mut self, client: Stream<'a>, _counts: AskCounts) -> io::Result<()>
-        ensures left { OnOk result (LeavesClient client.entry
-            (Some (record { coming = self.old.coming.items; left = self.old.left.items }))
-            (Some (record { coming = self.new.coming.items; left = self.new.left.items }))) }
-    {
-        Ok(self.left.push(client)?)
-    }
-
-    fn port(&self) -> io::Result<u16> {
-        Ok(4000)
-    }
+    all
 }
 
-// Each client is left with the outcomes of its own session.
+// Two clients at once, and one more at the first one's place. Each gets the outcomes of its own session.
 #[test]
 fn each_client_gets_its_outcomes(rt: HostRuntime) {
     let alloc = rt.alloc();
     let mut coming = VecDeque::new(alloc);
-    for bytes in [DEPOSIT, ASKED, GARBAGE] {
-        let client = ClientStream {
-            reader: Sent { bytes },
-            writer: Vec::new(alloc),
-        };
-        coming.push_back(client).expect(&rt, "room");
+    for piece in [
+        (0, DEPOSIT),
+        (1, ASKED),
+        (0, b"".as_slice()),
+        (1, b""),
+        (0, GARBAGE),
+    ] {
+        coming.push_back(piece).expect(&rt, "room");
     }
-    let left = Vec::new(alloc);
-    let listener = Known { coming, left };
-    let opening = read_opening(alloc, OPENING).expect(&rt, "an opening");
-    let plan = Plan {
-        host: HERE,
-        sessions: 3,
-        clients: None,
-        nodes: 1,
-        workers: 0,
-        saves: false,
-        patience: None,
-        is_quiet: true,
+    let known = Known {
+        rt: &rt,
+        coming,
+        sent: Vec::new(alloc),
     };
-    let (store, written) = (MemoryStore::new(alloc), Vec::new(alloc));
-    let bank = serve(&rt, alloc, listener, opening, store, plan, written).expect(&rt, "served");
-    let wanted: [&[u8]; 3] = [b"", TOLD, b""];
-    assert!(&rt; bank.listener.left.len() == 3);
-    for (client, wanted) in bank.listener.left.iter().zip(wanted) {
-        assert!(&rt; client.writer.as_slice() == wanted);
-    }
+    let plan = Plan {
+        sessions: 3,
+        ..PLAN
+    };
+    let bank = bank_of(&rt, alloc, OPENING);
+    let server = server_over(&rt, alloc, known, 2, bank, plan, Vec::new(alloc));
+    let served = serve(&rt, Box::into_inner(server)).expect(&rt, "served");
+    let sent = &served.sessions.connections().sent;
+    assert!(&rt; sent_to(&rt, alloc, 0, sent).is_empty());
+    assert!(&rt; sent_to(&rt, alloc, 1, sent).as_slice() == TOLD);
 }

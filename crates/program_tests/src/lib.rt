@@ -23,9 +23,13 @@ mod notes;
 #[cfg(test)]
 mod openings;
 #[cfg(test)]
+mod queues;
+#[cfg(test)]
 mod reports;
 #[cfg(test)]
 mod served;
+#[cfg(test)]
+mod serving;
 #[cfg(test)]
 mod sockets;
 #[cfg(test)]

@@ -1,9 +1,8 @@
 //! Banks on a log, and what is listed of it.
-use crate::clients::{Client, TestListener, Transcript};
-use crate::served::{ASKED, GARBAGE, HERE, OPENING, TOLD, plain};
-use bank_service::{
-    ListFault, ServeFault, ServedBank, Server, find_bank, list_log, open_on_file, serve_bank,
-};
+use crate::clients::{Client, Transcript, plain};
+use crate::served::{ASKED, GARBAGE, OPENING, TOLD};
+use crate::serving::{PLAN, server_to};
+use bank_service::{ListFault, ServeFault, find_bank, list_log, open_on_file, serve};
 use program_words::{Listing, Plan};
 use sb_checkpoint::MemoryStore;
 use sb_log::{LogFile, MemoryFile};
@@ -38,29 +37,21 @@ fn serve_on(
     printed: &[&str],
 ) -> Vec<u8> {
     let all = Transcript::new(alloc);
-    let listener = TestListener::of(alloc, clients, &all).expect(rt, "a listener");
     let mut file = file;
     let found = find_bank(alloc, &mut file, input).expect(rt, "a bank's log");
-    let primary = open_on_file(alloc, file, found, MemoryStore::new(alloc)).expect(rt, "a bank");
+    let bank = open_on_file(alloc, file, found, MemoryStore::new(alloc)).expect(rt, "a bank");
+    let bank = Box::new(alloc, bank).expect(rt, "a box");
     let mut written: Vec<u8> = Vec::new(alloc);
     let plan = Plan {
-        host: HERE,
         sessions: clients.len(),
-        clients: None,
         nodes: 2,
-        workers: 0,
-        saves: false,
-        patience: None,
-        is_quiet: true,
+        ..PLAN
     };
-    let server = Server {
-        alloc,
-        plan,
-        listener,
-        primary,
-        writer: &mut written,
-    };
-    let ServedBank { primary, .. } = serve_bank(rt, server).expect(rt, "served");
+    let server = server_to(rt, alloc, clients, &all, bank, plan, &mut written);
+    let served = serve(rt, Box::into_inner(server)).expect(rt, "served");
+    let bytes = served.primary.keeper().file().bytes();
+    let bytes = Vec::from_slice(alloc, bytes).expect(rt, "room");
+    drop(served);
     let mut expected: Vec<u8> = Vec::new(alloc);
     for part in printed {
         expected
@@ -68,9 +59,9 @@ fn serve_on(
             .expect(rt, "room");
     }
     assert!(rt; written.as_slice() == expected.as_slice());
-    let bytes = all.bytes.into_inner();
-    assert!(rt; bytes.as_slice() == TOLD);
-    Vec::from_slice(alloc, primary.keeper().file().bytes()).expect(rt, "room")
+    let told = all.bytes.into_inner();
+    assert!(rt; told.as_slice() == TOLD);
+    bytes
 }
 
 // The file of a bank that was served to a client.

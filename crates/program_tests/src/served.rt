@@ -1,23 +1,19 @@
 //! Banks that are served to clients in memory.
-ghost use Rattle.std.specs.Prelude.{◌≡◌, ◌≤◌, None, []};
-ghost use Rattle.bank_server.specs.Execution.{HasNoEntries};
+ghost use Rattle.std.specs.Prelude.{◌≤◌, None};
 
-use crate::clients::{Client, Manner, TestListener, Transcript};
-use bank_server::{Primary, ReadyFollowers, RunFault, StrayReason};
-use bank_service::{ServeFault, Server, serve, serve_beside};
+use crate::clients::{Client, Manner, Transcript, plain};
+use crate::serving::{PLAN, bank_of, bank_with, server_to};
+use bank_server::{ReadyFollowers, RunFault, StrayReason};
+use bank_service::{ServeFault, serve, serve_beside};
 use program_words::Plan;
 use sb_calls::{REPLICAS, WORKERS};
 use sb_checkpoint::{CheckpointStore, How, MemoryStore, StoreFault};
-use sb_rows::{Name, read_opening};
+use sb_rows::Name;
 use std::alloc::Global;
-use std::net::{IpAddr, Ipv4Addr};
 use std::process::Abort;
 use std::sync::Wait;
 use std::thread::Threads;
 use std::time::Clock;
-
-/// The address of this machine alone.
-pub const HERE: IpAddr = IpAddr::V4(Ipv4Addr::LOCALHOST);
 
 pub(crate) const OPENING: &[u8] = b"alice 100.00 50.00\nbob 0.00 20.00\nbegin\n";
 
@@ -37,11 +33,6 @@ pub(crate) const DEPOSIT: &[u8] =
 const ACK: &[u8] = b"\x00\x01\x06\x00\x0a\x03\x01\0\0\0\0\0\0\0\x02";
 
 pub(crate) const GARBAGE: &[u8] = b"GET / HTTP/1.1\r\n";
-
-pub(crate) fn plain(sent: &[u8]) -> Client<'_> {
-    let manner = Manner::Plain;
-    Client { sent, manner }
-}
 
 /// A store that holds nothing after its puts.
 #[derive(Drop)]
@@ -68,57 +59,69 @@ impl CheckpointStore for Forgetful {
     }
 }
 
-// Serves a bank to these clients with this store, and compares its end, its output and what the
-// clients get.
+// How a server ends, what it prints, what its clients get, and how many of them it hangs up on.
+#[derive(Clone, Copy)]
+struct Wanted<'a> {
+    ends: Result<(), ServeFault>,
+    printed: &'a str,
+    told: &'a [u8],
+    hung_up: usize,
+}
+
+// Serves a bank to these clients with this store, and compares.
 fn expect<S: CheckpointStore>(
     rt: &(impl Abort + Threads + Wait + Clock + Sync),
     alloc: Global,
     clients: &[Client],
     store: S,
     plan: Plan,
-    ends: Result<(), ServeFault>,
-    printed: &str,
-    told: &[u8],
-) -> usize
+    wanted: &Wanted,
+)
     requires nodes { plan.nodes ≤ REPLICAS }
     requires workers { plan.workers ≤ WORKERS }
 {
     let all = Transcript::new(alloc);
-    let listener = TestListener::of(alloc, clients, &all).expect(rt, "a listener");
-    let opening = read_opening(alloc, OPENING).expect(rt, "an opening");
+    let bank = bank_with(rt, alloc, OPENING, store);
     let mut written: Vec<u8> = Vec::new(alloc);
-    let served = serve(rt, alloc, listener, opening, store, plan, &mut written);
-    assert!(rt; served.map(|_| ()) == ends);
-    assert!(rt; written.as_slice() == printed.as_bytes());
-    let hung_up = all.hung_up.get();
+    let server = server_to(rt, alloc, clients, &all, bank, plan, &mut written);
+    let served = serve(rt, Box::into_inner(server)).map(|_| ());
+    assert!(rt; served == wanted.ends);
+    assert!(rt; written.as_slice() == wanted.printed.as_bytes());
+    assert!(rt; all.hung_up.get() == wanted.hung_up);
     let bytes = all.bytes.into_inner();
-    assert!(rt; bytes.as_slice() == told);
-    hung_up
+    assert!(rt; bytes.as_slice() == wanted.told);
 }
 
 #[test]
 fn two_sessions_and_one_at_fault(rt: HostRuntime) {
     let alloc = rt.alloc();
     let clients = [plain(ASKED), plain(GARBAGE), plain(DEPOSIT)];
-    let printed = "listening 127.0.0.1:4000\nsession 1 ok\nsession 2 fault 1\nsession 3 ok\n\
-        alice 100.00 50.00\nbob 0.00 25.00\ntotal 175.00\n";
+    let wanted = Wanted {
+        ends: Ok(()),
+        printed: "listening 127.0.0.1:4000\nsession 1 ok\nsession 2 fault 1\nsession 3 ok\n\
+            alice 100.00 50.00\nbob 0.00 25.00\ntotal 175.00\n",
+        told: TOLD,
+        hung_up: 1,
+    };
     for (nodes, workers) in [(1, 0), (1, 2), (3, 0), (16, 16)] {
         for saves in [false, true] {
             let plan = Plan {
-                host: HERE,
                 sessions: 3,
-                clients: None,
                 nodes,
                 workers,
                 saves,
-                patience: None,
-                is_quiet: true,
+                ..PLAN
             };
             let store = MemoryStore::new(alloc);
-            let hung_up = expect(&rt, alloc, &clients, store, plan, Ok(()), printed, TOLD);
-            assert!(&rt; hung_up == 1);
+            expect(&rt, alloc, &clients, store, plan, &wanted);
         }
     }
+}
+
+/// A client who asks for all, and whose stream behaves so.
+pub(crate) fn asking(manner: Manner) -> Client<'static> {
+    let sent = ASKED;
+    Client { sent, manner }
 }
 
 #[test]
@@ -127,143 +130,104 @@ fn sessions_at_fault(rt: HostRuntime) {
     let clients = [
         plain(&ASKED[..17]),
         plain(ACK),
-        Client {
-            sent: ASKED,
-            manner: Manner::Stubborn,
-        },
-        Client {
-            sent: ASKED,
-            manner: Manner::Deaf,
-        },
+        asking(Manner::Stubborn),
+        asking(Manner::Deaf),
+        asking(Manner::Full),
         Client {
             sent: DEPOSIT,
             manner: Manner::Broken,
         },
-        plain(ASKED),
+        asking(Manner::Fitful),
         plain(b""),
     ];
     let plan = Plan {
-        host: HERE,
-        sessions: 7,
-        clients: None,
+        sessions: 8,
         nodes: 2,
         workers: 1,
         saves: true,
-        patience: None,
-        is_quiet: true,
+        ..PLAN
     };
-    let printed = "listening 127.0.0.1:4000\nsession 1 fault 1\nsession 2 fault 2\n\
-        session 3 fault 4\nsession 4 fault 4\nsession 5 fault 4\nsession 6 ok\nsession 7 ok\n\
-        alice 100.00 50.00\nbob 0.00 25.00\ntotal 175.00\n";
+    let wanted = Wanted {
+        ends: Ok(()),
+        printed: "listening 127.0.0.1:4000\nsession 1 fault 1\nsession 2 fault 2\n\
+            session 3 fault 4\nsession 4 fault 4\nsession 5 fault 4\nsession 6 fault 4\n\
+            session 7 ok\nsession 8 ok\nalice 100.00 50.00\nbob 0.00 25.00\ntotal 175.00\n",
+        told: TOLD,
+        hung_up: 2,
+    };
     let store = MemoryStore::new(alloc);
-    let hung_up = expect(&rt, alloc, &clients, store, plan, Ok(()), printed, TOLD);
-    assert!(&rt; hung_up == 2);
+    expect(&rt, alloc, &clients, store, plan, &wanted);
 }
 
+// Those who are gone before they are accepted are passed over. In the end the device fails.
 #[test]
 fn nobody_else_is_let_in(rt: HostRuntime) {
     let alloc = rt.alloc();
+    let gone = asking(Manner::Gone);
     let plan = Plan {
-        host: HERE,
         sessions: 2,
-        clients: None,
-        nodes: 1,
-        workers: 0,
-        saves: false,
-        patience: None,
-        is_quiet: true,
+        ..PLAN
     };
-    let ends = Err(ServeFault::Run(RunFault::Device));
-    let printed = "listening 127.0.0.1:4000\nsession 1 ok\n";
+    let wanted = Wanted {
+        ends: Err(ServeFault::Run(RunFault::Device)),
+        printed: "listening 127.0.0.1:4000\nsession 1 ok\n",
+        told: TOLD,
+        hung_up: 0,
+    };
     let store = MemoryStore::new(alloc);
     expect(
         &rt,
         alloc,
-        &[plain(ASKED)],
+        &[gone, gone, plain(ASKED), gone],
         store,
         plan,
-        ends,
-        printed,
-        TOLD,
+        &wanted,
     );
 }
 
-// A bank of two sessions that saves.
-const SAVING: Plan = Plan {
-    host: HERE,
-    sessions: 2,
-    clients: None,
-    nodes: 1,
-    workers: 0,
-    saves: true,
-    patience: None,
-    is_quiet: true,
-};
-
-// What it prints if its first session can't be saved.
-const LISTENING: &str = "listening 127.0.0.1:4000\n";
+// The first session of a bank that saves ends so, because of this store. What was asked is told before, and
+// nobody is notified of the end.
+fn expect_unsaved<S: CheckpointStore>(
+    rt: &(impl Abort + Threads + Wait + Clock + Sync),
+    alloc: Global,
+    sent: &[u8],
+    store: S,
+    fault: ServeFault,
+) {
+    let plan = Plan {
+        sessions: 2,
+        saves: true,
+        ..PLAN
+    };
+    let wanted = Wanted {
+        ends: Err(fault),
+        printed: "listening 127.0.0.1:4000\n",
+        told: TOLD,
+        hung_up: 0,
+    };
+    expect(rt, alloc, &[plain(sent), plain(b"")], store, plan, &wanted);
+}
 
 #[test]
 fn a_store_that_forgets(rt: HostRuntime) {
-    let clients = [plain(ASKED), plain(b"")];
-    expect(
-        &rt,
-        rt.alloc(),
-        &clients,
-        Forgetful,
-        SAVING,
-        Err(ServeFault::ReadBack),
-        LISTENING,
-        TOLD,
-    );
+    let fault = ServeFault::ReadBack;
+    expect_unsaved(&rt, rt.alloc(), ASKED, Forgetful, fault);
 }
 
-// Nobody is notified of the end before the session's asks are saved.
 #[test]
 fn a_store_that_forgets_asks_before_a_fault(rt: HostRuntime) {
-    let alloc = rt.alloc();
-    let mut sent = Vec::from_slice(alloc, ASKED).expect(&rt, "memory");
+    let mut sent = Vec::from_slice(rt.alloc(), ASKED).expect(&rt, "memory");
     sent.extend_from_slice(GARBAGE).expect(&rt, "memory");
-    let clients = [plain(&sent), plain(b"")];
-    let hung_up = expect(
-        &rt,
-        alloc,
-        &clients,
-        Forgetful,
-        SAVING,
-        Err(ServeFault::ReadBack),
-        LISTENING,
-        TOLD,
-    );
-    assert!(&rt; hung_up == 0);
+    let fault = ServeFault::ReadBack;
+    expect_unsaved(&rt, rt.alloc(), &sent, Forgetful, fault);
 }
 
 #[test]
 fn a_store_that_fails(rt: HostRuntime) {
-    let alloc = rt.alloc();
-    let clients = [plain(ASKED), plain(b"")];
-    let mut store = MemoryStore::new(alloc);
+    let mut store = MemoryStore::new(rt.alloc());
     store.tell(How::New);
-    expect(
-        &rt,
-        alloc,
-        &clients,
-        store,
-        SAVING,
-        Err(ServeFault::Run(RunFault::Device)),
-        LISTENING,
-        TOLD,
-    );
-}
-
-/// A bank with this opening.
-pub(crate) fn bank_of(rt: &impl Abort, alloc: Global, opening: &[u8]) -> Box<Primary<MemoryStore>>
-    ensures log { result.value.log ≡ [] }
-    ensures opened { HasNoEntries result.value.node.board }
-{
-    let opening = read_opening(alloc, opening).expect(rt, "an opening");
-    let bank = Primary::open(alloc, opening, MemoryStore::new(alloc)).expect(rt, "a bank");
-    Box::new(alloc, bank).expect(rt, "a box")
+    let fault = ServeFault::Run(RunFault::Device);
+    expect_unsaved(&rt, rt.alloc(), ASKED, store, fault);
 }
 
 // Serves a client in memory, with followers that begin with this opening, and answers how that
@@ -277,25 +241,12 @@ fn serve_one_beside(
     requires { nodes ≤ REPLICAS }
 {
     let told = Transcript::new(alloc);
+    let clients = [plain(ASKED)];
     let other = bank_of(rt, alloc, beside);
     let followers = ReadyFollowers::open(alloc, other.node(), nodes, 0).expect(rt, "followers");
-    let server = Server {
-        alloc,
-        plan: Plan {
-            host: HERE,
-            sessions: 1,
-            clients: None,
-            nodes,
-            workers: 0,
-            saves: false,
-            patience: None,
-            is_quiet: true,
-        },
-        listener: TestListener::of(alloc, &[plain(ASKED)], &told).expect(rt, "a listener"),
-        primary: Box::into_inner(bank_of(rt, alloc, OPENING)),
-        writer: Vec::new(alloc),
-    };
-    serve_beside(rt, followers, server).map(|_| ())
+    let bank = bank_of(rt, alloc, OPENING);
+    let server = server_to(rt, alloc, &clients, &told, bank, PLAN, Vec::new(alloc));
+    serve_beside(rt, followers, Box::into_inner(server)).map(|_| ())
 }
 
 // What `serve` does with its followers; those that it starts itself never stray.

@@ -1,13 +1,17 @@
 //! Banks that are served over the system's sockets.
-use crate::served::HERE;
+use crate::clients::{Notes, Transcript};
+use crate::serving::{PLAN, bank_of, server_over};
+use bank_clients::OneByOne;
 use bank_program::{Trouble, listen};
-use bank_service::{ServeFault, SocketListener, serve};
+use bank_service::{ServeFault, serve};
 use program_words::{Plan, here};
-use sb_checkpoint::MemoryStore;
-use sb_rows::read_opening;
+use std::alloc::Global;
 use std::io::{Read, Write};
-use std::net::{IpAddr, Ipv4Addr, Net, OpenListener, OpenStream, Shutdown, SocketAddr};
+use std::net::{Net, OpenListener, OpenStream, Shutdown};
 use std::process::Abort;
+use std::sync::Wait;
+use std::thread::Threads;
+use std::time::Clock;
 use std::{io, thread};
 
 // Sends these pieces, and nothing after them.
@@ -37,7 +41,7 @@ fn hears(stream: &mut impl Read, told: &[u8]) -> io::Result<bool> {
 
 // Connects to a port, sends these pieces, and compares what comes until the server hangs up.
 fn is_told<N: Net>(net: &N, port: u16, sent: &[&[u8]], told: &[u8]) -> io::Result<bool> {
-    let mut stream = net.connect(SocketAddr::new(IpAddr::V4(Ipv4Addr::LOCALHOST), port))?;
+    let mut stream = net.connect(here(port))?;
     send(&mut stream, sent)?;
     hears(&mut stream, told)
 }
@@ -48,6 +52,32 @@ const DEPOSIT: &[u8] =
 
 const DONE: &[u8] = b"\x00\x13\x05\0\0\0\x07\0\0\0\x02\0\x01\0\0\0\0\0\0\0\0";
 
+// Serves a bank to two clients of this listener, and answers what it prints.
+fn serve_two<R, L>(rt: &R, alloc: Global, listener: L) -> Vec<u8>
+where
+    R: Abort + Threads + Wait + Clock + Sync,
+    L: OpenListener + Drop,
+    L::Stream: Read + Write + OpenStream,
+{
+    let told = Transcript::new(alloc);
+    let connections = OneByOne::new(rt, listener, None, Notes { told: &told });
+    let port = connections.port().expect(rt, "a port");
+    let plan = Plan {
+        sessions: 2,
+        nodes: 2,
+        workers: 1,
+        saves: true,
+        ..PLAN
+    };
+    let bank = bank_of(rt, alloc, b"bob 0.00 20.00\nbegin\n");
+    let mut written = Vec::new(alloc);
+    let mut server = server_over(rt, alloc, connections, 1, bank, plan, &mut written);
+    server.port = port;
+    let served = serve(rt, Box::into_inner(server)).is_ok();
+    assert!(rt; served);
+    written
+}
+
 #[test]
 fn clients_over_sockets(rt: HostRuntime) {
     let alloc = rt.alloc();
@@ -55,31 +85,15 @@ fn clients_over_sockets(rt: HostRuntime) {
     let listener = listen(&rt, here(0), &trouble).expect(&rt, "a port");
     let port = listener.local_addr().expect(&rt, "an address").port();
     assert!(&rt; listen(&rt, here(port), &trouble).err() == Some(ServeFault::PortTaken(port)));
-    let opening = read_opening(alloc, b"bob 0.00 20.00\nbegin\n").expect(&rt, "an opening");
-    let (served, told) = thread::join(
+    let (printed, told) = thread::join(
         &rt,
-        || {
-            let store = MemoryStore::new(alloc);
-            let plan = Plan {
-                host: HERE,
-                sessions: 2,
-                clients: None,
-                nodes: 2,
-                workers: 1,
-                saves: true,
-                patience: None,
-                is_quiet: true,
-            };
-            let clients = SocketListener::new(&rt, listener);
-            serve(&rt, alloc, clients, opening, store, plan, Vec::new(alloc))
-        },
+        || serve_two(&rt, alloc, listener),
         || -> io::Result<bool> {
             let first = is_told(&rt, port, &[DEPOSIT, b"GET /"], DONE)?;
             Ok(first && is_told(&rt, port, &[DEPOSIT], DONE)?)
         },
     );
     assert!(&rt; told.expect(&rt, "a connection"));
-    let printed = served.expect(&rt, "a bank that was served").writer;
     let wanted = format!(in alloc;
         "listening 127.0.0.1:{port}\nsession 1 fault 1\nsession 2 ok\n\
         bob 0.00 25.00\ntotal 25.00\n"

@@ -1,5 +1,5 @@
 //! The program's words.
-use crate::served::HERE;
+use crate::serving::{HERE, PLAN};
 use clap::Error;
 use program_words::{
     AskWords, CheckpointView, CheckpointWords, Listing, LogAction, LogWords, Plan, RunWords,
@@ -82,14 +82,8 @@ fn words_of_the_program(rt: HostRuntime) {
 
 // A bank that is served with no option but the port.
 const SERVED_AS_USUAL: Plan = Plan {
-    host: HERE,
-    sessions: 1,
-    clients: None,
-    nodes: 1,
-    workers: 0,
-    saves: false,
-    patience: None,
     is_quiet: false,
+    ..PLAN
 };
 
 // A bank that is served with the greatest number for each option.

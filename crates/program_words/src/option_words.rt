@@ -112,7 +112,7 @@ pub(crate) const PATIENCE: Word = Word {
     takes: Takes::Number("1..86400", 1, 86_400),
     standard: None,
     needed: Needed::No,
-    help: "For how many seconds a client is waited for, at each read and each write: with --log 60, else for ever",
+    help: "For how many seconds a whole frame of a client, or a write to it, may take: with --log 60, else for ever",
 };
 
 pub(crate) const QUIET: Word = Word {

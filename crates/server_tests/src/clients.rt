@@ -5,7 +5,7 @@ ghost use Rattle.bank_server.specs.Clients.{IsReady};
 
 use crate::bank::{expect, expect_bytes, joined, opened};
 use crate::wire::{ENTRY, FLUSH, OTHER};
-use bank_server::{Arrival, Arrivals, Clients, Primary, SessionFault};
+use bank_server::{Arrival, Arrivals, ClientLimits, Clients, Primary, SessionFault};
 use cown_workers::InlineCrew;
 use sb_checkpoint::MemoryStore;
 use sb_frames::FrameFault;
@@ -54,7 +54,8 @@ fn put(bytes: &[u8], chunk: &mut [u8]) -> usize
 fn some_clients(rt: &impl Abort, alloc: Global) -> Clients
     ensures ready { (calls : ℕ) → All (λ client. IsReady calls client) result.all }
 {
-    let mut clients = Clients::new(alloc).expect(rt, "memory for clients");
+    let limits = ClientLimits::beside_others();
+    let mut clients = Clients::new(alloc, limits).expect(rt, "memory for clients");
     clients.join().expect(rt, "memory for a client");
     clients.join().expect(rt, "memory for a client");
     clients.join().expect(rt, "memory for a client");
@@ -76,6 +77,18 @@ fn turn(
         .turn(&mut script, primary, &mut InlineCrew)
         .expect(rt, "a turn");
     expect(rt, script.taken == pieces.len(), "all that came is taken");
+}
+
+/// A client sends this in one piece, and goes on. No flush of it follows, so that node 0 is offered what it
+/// asked, and doesn't finish it.
+pub(crate) fn ask_unflushed(
+    rt: &impl Abort,
+    alloc: Global,
+    primary: &mut Primary<MemoryStore>,
+    sent: &[u8],
+) {
+    let mut clients = some_clients(rt, alloc);
+    turn(rt, &[(0, Some(sent))], &mut clients, primary);
 }
 
 // What a client was given by now, and how it ended.

@@ -5,7 +5,7 @@ ghost use Rattle.bank_clients.specs.Sessions.{AreListed, AreReady};
 use crate::bank::{expect, expect_bytes, joined, opened};
 use crate::wire::{DEPOSIT, DONE, FLUSH, OTHER};
 use bank_clients::{Connections, Over, Sessions};
-use bank_server::{Arrival, Arrivals, AskCounts, Primary, SessionFault};
+use bank_server::{Arrival, Arrivals, AskCounts, ClientLimits, Primary, SessionFault};
 use cown_workers::InlineCrew;
 use sb_checkpoint::MemoryStore;
 use sb_frames::FrameFault;
@@ -161,7 +161,11 @@ fn expect_case(rt: &impl Abort, alloc: Global, case: &Case) {
         sent,
         left: Vec::new(alloc),
     };
-    let mut sessions = Sessions::open(alloc, wires, PLACES).expect(rt, "memory for sessions");
+    let limits = ClientLimits::beside_others();
+    let mut sessions = Sessions::open(alloc, wires, PLACES, limits).expect(
+        rt,
+        "memory for sessions",
+    );
     let mut over = Vec::new(alloc);
     serve_round(rt, &mut sessions, &mut primary, &mut over);
     serve_round(rt, &mut sessions, &mut primary, &mut over);

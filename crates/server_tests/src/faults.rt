@@ -1,6 +1,6 @@
 //! The texts of faults, and a session's numbers.
 use crate::bank::{expect, expect_bytes};
-use bank_server::{InputFault, RunFault, SaveFault, SessionFault, StrayReason};
+use bank_server::{InputFault, RunFault, SaveFault, SessionFault, StrayReason, TurnFault};
 use sb_calls::CallFault;
 use sb_frames::FrameFault;
 use sb_log::LogFault;
@@ -70,6 +70,8 @@ fn faults_of_sessions(rt: HostRuntime) {
     for (fault, text) in OF_SESSIONS {
         expect_text(&rt, rt.alloc(), fault, text);
     }
+    let turn = TurnFault::Log(LogFault::Device);
+    expect_text(&rt, rt.alloc(), &turn, "the log can't be kept: device");
     let first = SessionFault::Frame(FrameFault::BadLength);
     expect(&rt, first.number() == 1, "the first number");
     expect(

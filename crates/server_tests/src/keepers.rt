@@ -150,11 +150,19 @@ fn a_log_is_kept_before_its_outcomes_are_told(rt: HostRuntime) {
 // Two asks, and then a frame that no client sends.
 const CUT_SHORT: &[&[u8]] = &[BALANCE, DEPOSIT, ENTRY];
 
+// The log is kept as the client ends, and once more, when nothing is left to be kept.
 const UNFLUSHED: &[KeptSession<'static>] = &[
+    KeptSession {
+        left: 2,
+        sent: CUT_SHORT,
+        ends: Err(SessionFault::Unexpected),
+        told: &[],
+        kept: 2,
+    },
     KeptSession {
         left: 1,
         sent: CUT_SHORT,
-        ends: Err(SessionFault::Unexpected),
+        ends: UNKEPT,
         told: &[],
         kept: 2,
     },

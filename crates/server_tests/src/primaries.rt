@@ -1,7 +1,7 @@
 //! A log, and the node that executes it.
 use crate::bank::{expect, opened};
-use crate::wire::{ENTRY, expect_session};
-use bank_server::{Primary, SessionFault, Standing, ask_lines};
+use crate::clients::ask_unflushed;
+use bank_server::{Primary, Standing, ask_lines};
 use cown_board::Runs;
 use cown_workers::InlineCrew;
 use sb_calls::{Reply, read_call};
@@ -47,9 +47,8 @@ fn push_ask(rt: &impl Abort, request: u32, line: &str, out: &mut Vec<u8>) {
     out.extend_from_slice(&frame).expect(rt, "memory for bytes");
 }
 
-// A client sends these asks and then a frame that no client sends: they are numbered, and the node
-// isn't offered them.
-fn break_off(
+// A client sends these asks, and no flush.
+fn ask_all(
     rt: &impl Abort,
     alloc: Global,
     primary: &mut Primary<MemoryStore>,
@@ -59,11 +58,11 @@ fn break_off(
     for (request, line) in asks {
         push_ask(rt, *request, line, &mut sent);
     }
-    end_with_entry(rt, alloc, primary, sent);
+    ask_unflushed(rt, alloc, primary, &sent);
 }
 
 // The same for deposits of a cent by these requests.
-fn break_off_deposits(
+fn ask_deposits(
     rt: &impl Abort,
     alloc: Global,
     primary: &mut Primary<MemoryStore>,
@@ -74,30 +73,14 @@ fn break_off_deposits(
     for request in first..end {
         push_ask(rt, request, "deposit bob 0.01", &mut sent);
     }
-    end_with_entry(rt, alloc, primary, sent);
+    ask_unflushed(rt, alloc, primary, &sent);
 }
 
-fn end_with_entry(
-    rt: &impl Abort,
-    alloc: Global,
-    primary: &mut Primary<MemoryStore>,
-    mut sent: Vec<u8>,
-) {
-    sent.extend_from_slice(ENTRY).expect(rt, "memory for bytes");
-    expect_session(
-        rt,
-        alloc,
-        primary,
-        &sent,
-        Err(SessionFault::Unexpected),
-        b"",
-    );
-}
-
-// Checks the number of entries in the log, and in the node's log.
-fn expect_lengths(rt: &impl Abort, primary: &Primary<MemoryStore>, log: u64, node: u64) {
-    expect(rt, primary.log().length() == log, "the log");
-    expect(rt, primary.node().length() == node, "the node");
+// Checks the number of entries, which the node has too, and whether it has finished all of them.
+fn expect_entries(rt: &impl Abort, primary: &Primary<MemoryStore>, count: u64, is_idle: bool) {
+    expect(rt, primary.log().length() == count, "the log");
+    expect(rt, primary.node().length() == count, "the node");
+    expect(rt, primary.node().idle() == is_idle, "what it has finished");
 }
 
 // Checks the node's reply to an entry.
@@ -124,10 +107,10 @@ const ASKS: &[(u32, &str)] = &[
 #[test]
 fn what_was_asked_is_carried_out_once_settled(rt: HostRuntime) {
     let mut primary = opened(&rt, rt.alloc());
-    break_off(&rt, rt.alloc(), &mut primary, ASKS);
-    expect_lengths(&rt, &primary, 2, 0);
+    ask_all(&rt, rt.alloc(), &mut primary, ASKS);
+    expect_entries(&rt, &primary, 2, false);
     settle(&rt, &mut primary);
-    expect_lengths(&rt, &primary, 2, 2);
+    expect_entries(&rt, &primary, 2, true);
     expect_reply(&rt, &primary, 1, Reply::Done);
     expect_reply(&rt, &primary, 2, Reply::Shown(2_500));
 }
@@ -137,15 +120,14 @@ const LAST_ASK: &[(u32, &str)] = &[(3_000, "balance bob")];
 #[test]
 fn more_asks_than_may_be_unfinished(rt: HostRuntime) {
     let mut primary = opened(&rt, rt.alloc());
-    break_off_deposits(&rt, rt.alloc(), &mut primary, 0, 2_000);
-    expect_lengths(&rt, &primary, 2_000, 0);
-    // A session begins with what is left of the ones before.
-    break_off_deposits(&rt, rt.alloc(), &mut primary, 2_000, 3_000);
-    expect_lengths(&rt, &primary, 3_000, 2_000);
+    ask_deposits(&rt, rt.alloc(), &mut primary, 0, 2_000);
+    expect_entries(&rt, &primary, 2_000, false);
+    ask_deposits(&rt, rt.alloc(), &mut primary, 2_000, 3_000);
+    expect_entries(&rt, &primary, 3_000, false);
     settle(&rt, &mut primary);
-    expect_lengths(&rt, &primary, 3_000, 3_000);
-    break_off(&rt, rt.alloc(), &mut primary, LAST_ASK);
+    expect_entries(&rt, &primary, 3_000, true);
+    ask_all(&rt, rt.alloc(), &mut primary, LAST_ASK);
     settle(&rt, &mut primary);
-    expect_lengths(&rt, &primary, 3_001, 3_001);
+    expect_entries(&rt, &primary, 3_001, true);
     expect_reply(&rt, &primary, 3_001, Reply::Shown(5_000));
 }

@@ -1,9 +1,9 @@
 //! Saving a served bank.
 use crate::bank::{expect, expect_bytes, opened, opened_over};
-use crate::devices::BytewiseReader;
+use crate::clients::ask_unflushed;
 use crate::stores::{Habit, HabitualStore};
 use crate::wire::{BALANCE, DEPOSIT, DONE, FLUSH, SHOWN, serve};
-use bank_server::{Primary, SaveFault, SessionFault, serve_session};
+use bank_server::{Primary, SaveFault};
 use cown_board::Runs;
 use cown_workers::InlineCrew;
 use sb_checkpoint::{
@@ -79,27 +79,10 @@ fn a_file_has_what_was_put(rt: HostRuntime) {
     expect_bytes(&rt, &held, SAVED, "what the file has");
 }
 
-// A client's connection breaks after its deposit, which no flush follows.
-fn break_after_deposit(rt: &impl Abort, alloc: Global, primary: &mut Primary<MemoryStore>) {
-    // Its 24 bytes take two reads each.
-    let mut reader = BytewiseReader {
-        left: DEPOSIT,
-        reads: 48,
-        fails: true,
-    };
-    let mut written: Vec<u8> = Vec::new(alloc);
-    let ended = serve_session(alloc, &mut reader, &mut written, primary, &mut InlineCrew);
-    expect(
-        rt,
-        ended == Err(SessionFault::Device),
-        "a broken connection",
-    );
-}
-
 #[test]
 fn something_unfinished(rt: HostRuntime) {
     let mut primary = opened(&rt, rt.alloc());
-    break_after_deposit(&rt, rt.alloc(), &mut primary);
+    ask_unflushed(&rt, rt.alloc(), &mut primary, DEPOSIT);
     expect_saved(
         &rt,
         &mut *primary,

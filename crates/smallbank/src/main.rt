@@ -29,7 +29,7 @@ fn words_of(rt: &HostRuntime) -> io::Result<Vec<String>> {
 
 // Executes what the program's words say, tells a fault, and answers the exit status. The second handle
 // is for threads.
-fn execute<'d, H: Threads + Wait + Clock + Sync + Net>(
+fn execute<'d, H: Threads + Wait + Clock + Sync + Net + Copy + Send + 'static>(
     rt: &HostRuntime,
     threads: &H,
     words: &'d io::Result<Vec<String>>,
@@ -42,7 +42,7 @@ fn execute<'d, H: Threads + Wait + Clock + Sync + Net>(
 }
 
 // Executes what the program's words say, and answers the exit status.
-fn start<'d, H: Threads + Wait + Clock + Sync + Net>(
+fn start<'d, H: Threads + Wait + Clock + Sync + Net + Copy + Send + 'static>(
     rt: &HostRuntime,
     threads: &H,
     words: &'d io::Result<Vec<String>>,
@@ -62,7 +62,7 @@ fn start<'d, H: Threads + Wait + Clock + Sync + Net>(
 }
 
 // Executes what the words say.
-fn obey<'d, H: Threads + Wait + Clock + Sync + Net>(
+fn obey<'d, H: Threads + Wait + Clock + Sync + Net + Copy + Send + 'static>(
     rt: &HostRuntime,
     threads: &H,
     words: Words<'d>,

@@ -1,16 +1,24 @@
 -- Steps of a round in which nothing is asked.
-use Rattle.std.specs.Prelude.{◌≡◌, ◌⊎◌, ℕ, true, Option, is_some, List, [], map, IfSome, slice_get}
+use Rattle.std.specs.Prelude.{◌≡◌, ◌⊎◌, ℕ, true, Option, is_some, List, [], ◌++◌, map, IfSome, slice_get}
 use Rattle.std.specs.List.{Contains}
 use Rattle.sb_calls.specs.declared.ask.Key.{Key}
 use Rattle.sb_calls.specs.declared.call.Call.{Call}
 use Rattle.sb_rows.specs.Rows.{Rows}
 use Rattle.bank_server.specs.Clients.{ClientOf, End}
-use Rattle.bank_clients.specs.History.{GoesOn, OutsideOf}
+use Rattle.bank_clients.specs.History.{GoesOn, OutsideOf, TakesBytes}
+use Rattle.bank_clients.specs.Sessions.{bytes_to, unread_of}
 
 -- whatever the log is, it stays, no session ends, and each client stays served
 abbrev pub StandsBy : OutsideOf → List ClientOf → OutsideOf → List ClientOf → Type 0
 StandsBy outside old outside_after new = (opening : Rows) (log : List (Key × Call))
     → GoesOn opening outside log old [] outside_after log new
+
+-- each connection took a beginning of what its client had unread, and the client has the rest unread still
+pub record LeavesRest (old new : List ClientOf) (sent sent_after : Option (List (ℕ × List ℕ))) : Type 0 where
+  pub bytes : List (ℕ × List ℕ)
+  pub took : TakesBytes sent sent_after bytes
+  pub rest : (place : ℕ)
+      → unread_of (slice_get old place) ≡ bytes_to place bytes ++ unread_of (slice_get new place)
 
 -- how each client ended, if it has
 abbrev pub endings_of : List ClientOf → List (Option End)

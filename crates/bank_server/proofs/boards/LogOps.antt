@@ -1,6 +1,6 @@
 -- The ops of a log while a node executes them.
-use Rattle.std.proofs.Common.{◌≡◌, ℕ, zero, suc, Bool, false, Option, Some, None, List, [], ◌∷◌, ◌++◌, length, map, sym, ap, subst, ◌∙◌, append_assoc}
-use Rattle.std.specs.Prelude.{slice_get}
+use Rattle.std.proofs.Common.{◌≡◌, ℕ, zero, suc, Bool, false, Option, Some, None, Result, Ok, Err, List, [], ◌∷◌, ◌++◌, length, map, sym, ap, subst, ◌∙◌, append_assoc}
+use Rattle.std.specs.Prelude.{IfErr, slice_get}
 use Rattle.std.proofs.lemmas.List.{length-map, map-append}
 use Rattle.sb_calls.specs.declared.ask.Key.{Key}
 use Rattle.sb_calls.specs.declared.call.Call.{Call}
@@ -19,9 +19,8 @@ use Rattle.bank_server.specs.Faults.{IsExecutionFault}
 use Rattle.bank_server.specs.Primary.{HasPrefixOf, log_ops}
 use Rattle.bank_server.specs.inner.Appends.{AppendsOps}
 use Rattle.bank_server.specs.inner.KeptPrimary.{IsKeptPrimary}
-use Rattle.bank_server.specs.SessionFaults.{LosesCrew, LosesLog}
+use Rattle.bank_server.specs.SessionFaults.{LosesCrew, LosesLog, as_session, session_of_crew_fault}
 use Rattle.bank_server.specs.declared.node0.ask_counts.AskCounts.{AskCounts}
-use Rattle.bank_server.specs.inner.FlushFaults.{session_of_crew_fault}
 
 some_is : {A : Type 0} {x y : A} → ◌≡◌ {A = Option A} (Some x) (Some y) → x ≡ y
 some_is h = cc
@@ -44,6 +43,17 @@ loses_crew keeps board crew.OutOfMemory is = tt
 pub loses_no_log : (fails failed : Bool) (fault : CrewFault) → LosesLog fails failed (session_of_crew_fault fault)
 loses_no_log fails failed crew.CrewGone = tt
 loses_no_log fails failed crew.OutOfMemory = tt
+
+-- the same of a result
+pub result_loses_crew : {T : Type 0} (keeps : Bool) (board : BoardOf Op) (result : Result T CrewFault) → IfErr result (IsExecutionFault keeps board)
+    → IfErr (as_session session_of_crew_fault result) (LosesCrew keeps board)
+result_loses_crew keeps board (Ok value) is = tt
+result_loses_crew keeps board (Err fault) is = loses_crew keeps board fault is
+
+pub result_loses_no_log : {T : Type 0} (fails failed : Bool) (result : Result T CrewFault)
+    → IfErr (as_session session_of_crew_fault result) (LosesLog fails failed)
+result_loses_no_log fails failed (Ok value) = tt
+result_loses_no_log fails failed (Err fault) = loses_no_log fails failed fault
 
 -- ---- the next op
 

@@ -1,6 +1,6 @@
 -- What is answered once the whole log is executed.
 use Rattle.std.proofs.Common.{◌≡◌, ℕ, true, false, Result, Ok, Err, List, refl, ap, subst, ◌∙◌}
-use Rattle.std.specs.Prelude.{IfErr, OnOk}
+use Rattle.std.specs.Prelude.{IfErr, OnErr, OnOk}
 use Rattle.std.specs.Result.{is_err}
 use Rattle.sb_rows.specs.Rows.{Rows, SameCustomers, rows_of}
 use Rattle.sb_calls.specs.Log.{replies_to}
@@ -45,3 +45,8 @@ if_err (Err e) f p = f e p
 pub ok_always : {T E P : Type 0} (r : Result T E) → P → OnOk r P
 ok_always (Ok x) p = p
 ok_always (Err e) p = tt
+
+-- and after `Err`
+pub err_always : {T E P : Type 0} (r : Result T E) → P → OnErr r P
+err_always (Ok x) p = tt
+err_always (Err e) p = p

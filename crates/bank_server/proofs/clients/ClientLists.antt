@@ -1,24 +1,26 @@
 -- What is heard of many clients, and what one of them makes of the others.
-use Rattle.std.proofs.Common.{arith, ◌≡◌, ℕ, ◌≤◌, ◌<◌, ◌+◌, Bool, true, false, if◌then◌else◌, Option, Some, None, List, [], ◌∷◌, ◌++◌, length, refl, sym, ap, subst, ◌∙◌, append_assoc, append-nil}
+use Rattle.std.proofs.Common.{arith, ◌≡◌, ℕ, ◌≤◌, ◌<◌, ◌+◌, Bool, true, false, if◌then◌else◌, Option, Some, None, List, [], ◌∷◌, ◌++◌, get_or, length, refl, sym, ap, subst, ◌∙◌, append_assoc, append-nil}
 use Rattle.std.specs.Prelude.{◌==◌, ◌≢◌, IfSome, slice_get, slice_set}
-use Rattle.std.specs.List.{All}
+use Rattle.std.specs.List.{All, flat_map}
 use Rattle.std.proofs.lemmas.Bool.{eqb-true}
 use Rattle.std.proofs.lemmas.Grind.{flat_map-append}
-use Rattle.std.proofs.lemmas.List.Elements.{All-append, All-cons, All-nil}
+use Rattle.std.proofs.lemmas.List.Elements.{All-append, All-cons, All-head, All-nil, All-tail}
 use Rattle.std.proofs.lemmas.List.{length-set, length_push}
-use Rattle.std.proofs.lemmas.Option.{slice_get_within}
+use Rattle.std.proofs.lemmas.Option.{slice_get-get_or, slice_get_within}
 use Rattle.sb_calls.proofs.CownContents.{eqb-refl}
 use Rattle.sb_rows.specs.Rows.{Rows}
 use Rattle.sb_calls.specs.declared.ask.Key.{Key}
 use Rattle.sb_calls.specs.declared.call.Call.{Call}
+use Rattle.sb_frames.specs.Grammar.{spelling}
 use Rattle.sb_frames.specs.declared.frame.Frame as wire
 use Rattle.sb_sequencer.specs.Numbering.{first_asks}
 use Rattle.cown_board.proofs.StateChanges.{slice_get-set_other, slice_get-set_same}
-use Rattle.bank_server.specs.Clients.{AreServed, AreTakenInOrder, ClientOf, IsServed, PastOf, Piece, TakesArrivals, TakesFromFront, TakesOfThem, ServesTurn, asks_of_all, frames_of_client, past_after, pieces_of_client, with_number}
-use Rattle.bank_server.specs.Session.{ask_of_frame, asks_in}
-use Rattle.bank_server.specs.inner.ClientTurns.{HearsClient, IsServing, TakesSome, TellsClient, TellsClients, state_of_client}
+use Rattle.bank_server.specs.Clients.{AreServed, AreTakenInOrder, ClientOf, IsServed, PastOf, Piece, TakesArrivals, TakesFromFront, TakesOfThem, ServesTurn, StopsTurn, asks_of_all, fresh_client, frames_of_client, past_after, pieces_of_client, with_number}
+use Rattle.bank_server.specs.Session.{IsFromClient, ask_of_frame, asks_in}
+use Rattle.bank_server.specs.inner.ClientTurns.{BeginsWithFrames, HearsClient, IsServing, StopsHearing, StopsTaking, TakesSome, TellsClient, TellsClients, state_of_client}
+use Rattle.bank_server.proofs.clients.ClientAsks.{All-behind, All-front}
 use Rattle.bank_server.proofs.clients.ClientSteps.{beside}
-use Rattle.bank_server.proofs.clients.ClientTurns.{served_from, serving_from}
+use Rattle.bank_server.proofs.clients.ClientTurns.{bytes_on, served_from, serving_from}
 
 -- ---- what others ask leaves a client as it is served
 
@@ -322,4 +324,163 @@ turn_served opening coming left here old_log old new_log mid new turn tells none
         all_served opening (asks ++ asks_of_all took.0) (past_after past turn.arrivals took.0) new_log new none_due
             (tells (asks ++ asks_of_all took.0) (past_after past turn.arrivals took.0) took.3),
       );
+}
+
+-- ---- where a turn fails
+
+abbrev AreFromClients : List (ℕ × wire.Frame) → Type 0
+AreFromClients taken = All (λ (t : ℕ × wire.Frame). IsFromClient t.1) taken
+
+from_numbered : (k : ℕ) (frames : List wire.Frame) → All IsFromClient frames → AreFromClients (with_number k frames)
+from_numbered k [] all = All-nil (λ (t : ℕ × wire.Frame). IsFromClient t.1)
+from_numbered k (frame ∷ frames) all =
+    All-cons (λ (t : ℕ × wire.Frame). IsFromClient t.1) (k, frame) (with_number k frames) (All-head IsFromClient frame frames all)
+    (from_numbered k frames (All-tail IsFromClient frame frames all))
+
+-- where the frames of each client are asks and flushes, those of all are
+from_each : (count : ℕ) (taken : List (ℕ × wire.Frame)) → All (λ (t : ℕ × wire.Frame). t.0 < count) taken
+    → ((i : ℕ) → i < count → All IsFromClient (frames_of_client i taken)) → AreFromClients taken
+from_each count [] there each = All-nil (λ (t : ℕ × wire.Frame). IsFromClient t.1)
+from_each count (t ∷ taken) there each =
+    All-cons (λ (u : ℕ × wire.Frame). IsFromClient u.1) t taken own
+    (from_each count taken (All-tail (λ (u : ℕ × wire.Frame). u.0 < count) t taken there)
+    (λ i lt. All-behind IsFromClient (if t.0 == i then t.1 ∷ [] else []) (frames_of_client i taken) (each i lt)))
+  where
+    mine : All IsFromClient (if t.0 == t.0 then t.1 ∷ [] else [])
+    mine = All-front IsFromClient (if t.0 == t.0 then t.1 ∷ [] else []) (frames_of_client t.0 taken)
+        (each t.0 (All-head (λ (u : ℕ × wire.Frame). u.0 < count) t taken there))
+
+    own : IsFromClient t.1
+    own = All-head IsFromClient t.1 [] (subst (λ b. All IsFromClient (if b then t.1 ∷ [] else [])) (eqb-refl t.0) mine)
+
+-- one of the clients who are served
+serving_there : (opening : Rows) (asks log : List (Key × Call)) (past : ℕ → PastOf) (clients : List ClientOf) (i : ℕ) → i < length clients
+    → AreServed (IsServing opening) asks past log clients → (client : ClientOf) × IsServing opening asks log (past i) client
+serving_there opening asks log past clients i lt are =
+    let nobody = fresh_client (record { asks = 0; unread = 0 }) in (
+      get_or clients i nobody,
+      subst (λ o. IfSome o (λ c. IsServing opening asks log (past i) c)) (slice_get-get_or clients i nobody lt) (are.each i),
+    )
+
+abbrev AllBegin : List ClientOf → (ℕ → PastOf) → Type 0
+AllBegin clients past = (i : ℕ) → IfSome (slice_get clients i) (λ c. BeginsWithFrames (past i).pieces (past i).frames)
+
+-- what was taken of clients who are served
+begin_served : (opening : Rows) (asks : List (Key × Call)) (past : ℕ → PastOf) (xs : List (ℕ × Piece)) (taken : List (ℕ × wire.Frame))
+    (log : List (Key × Call)) (old new : List ClientOf) → length new ≡ length old → All (λ (t : ℕ × wire.Frame). t.0 < length new) taken
+    → AreServed (IsServing opening) (asks ++ asks_of_all taken) (past_after past xs taken) log new
+    → AreFromClients taken × AllBegin old (past_after past xs taken)
+begin_served opening asks past xs taken log old new as_many there are =
+    (from_each (length new) taken there frames, λ i. by i (slice_get old i) refl)
+  where
+    now : ℕ → PastOf
+    now = past_after past xs taken
+
+    one : (i : ℕ) → i < length new → (client : ClientOf) × IsServing opening (asks ++ asks_of_all taken) log (now i) client
+    one i lt = serving_there opening (asks ++ asks_of_all taken) log now new i lt are
+
+    frames : (i : ℕ) → i < length new → All IsFromClient (frames_of_client i taken)
+    frames i lt = All-behind IsFromClient (past i).frames (frames_of_client i taken) (one i lt).1.reached.clients
+
+    by : (i : ℕ) (o : Option ClientOf) → slice_get old i ≡ o → IfSome o (λ c. BeginsWithFrames (now i).pieces (now i).frames)
+    by i None e = tt
+    by i (Some c) e =
+        let heard = (one i (omega (arith, slice_get_within old i c e, as_many))).1.heard in
+        (heard.rest, heard.bytes_are)
+
+-- memory was refused before anything of an arrival was taken
+pub stops_before : (opening : Rows) (log : List (Key × Call)) (clients : List ClientOf) (k : ℕ) (piece : Piece)
+    → StopsTaking (IsServing opening) log clients ((k, piece) ∷ []) log
+stops_before opening log clients k piece asks past are = (
+  [],
+  All-nil (λ (t : ℕ × wire.Frame). IsFromClient t.1),
+  are.log_is ∙ ap first_asks (sym (append-nil asks)),
+  λ i. by i (slice_get clients i) (are.each i),
+)
+  where
+    by : (i : ℕ) (o : Option ClientOf) → IfSome o (λ c. IsServing opening asks log (past i) c)
+        → IfSome o (λ c. BeginsWithFrames ((past i).pieces ++ pieces_of_client i ((k, piece) ∷ [])) ((past i).frames ++ []))
+    by i None s = tt
+    by i (Some c) s =
+        let on = bytes_on (past i).pieces (pieces_of_client i ((k, piece) ∷ [])) in
+        let rest = s.heard.rest in (
+          rest ++ on.0,
+          on.1 ∙ ap (λ (l : List ℕ). l ++ on.0) s.heard.bytes_are ∙ append_assoc (flat_map spelling (past i).frames) rest on.0
+              ∙ ap (λ (l : List wire.Frame). flat_map spelling l ++ (rest ++ on.0)) (sym (append-nil (past i).frames)),
+        )
+
+-- or within it
+pub stops_one : (opening : Rows) (old_log : List (Key × Call)) (clients : List ClientOf) (k : ℕ) (piece : Piece) (old : ClientOf)
+    (new_log : List (Key × Call)) → slice_get clients k ≡ Some old → StopsHearing opening old_log old piece new_log
+    → StopsTaking (IsServing opening) old_log clients ((k, piece) ∷ []) new_log
+stops_one opening old_log clients k piece old new_log is stops asks past are = (
+  more,
+  from_numbered k taken.0 taken.1,
+  taken.2 ∙ ap (λ l. first_asks (asks ++ l)) (sym (asks_numbered k taken.0)),
+  λ i. by i (k == i) refl (slice_get clients i) (are.each i),
+)
+  where
+    taken : (more : List wire.Frame) × All IsFromClient more × (new_log ≡ first_asks (asks ++ asks_in more))
+        × BeginsWithFrames ((past k).pieces ++ piece ∷ []) ((past k).frames ++ more)
+    taken = stops asks (past k) are.log_is (subst (λ o. IfSome o (λ c. IsServing opening asks old_log (past k) c)) is (are.each k))
+
+    more : List (ℕ × wire.Frame)
+    more = with_number k taken.0
+
+    now : ℕ → PastOf
+    now = past_after past ((k, piece) ∷ []) more
+
+    by : (i : ℕ) (test : Bool) → (k == i) ≡ test → (o : Option ClientOf) → IfSome o (λ c. IsServing opening asks old_log (past i) c)
+        → IfSome o (λ c. BeginsWithFrames (now i).pieces (now i).frames)
+    by i test e None s = tt
+    by i true mine (Some c) s = subst (λ n. BeginsWithFrames (now n).pieces (now n).frames) (eqb-true k i mine)
+        (subst (λ (p : PastOf). BeginsWithFrames p.pieces p.frames) (sym (past_own past k piece taken.0)) taken.3)
+    by i false other (Some c) s = subst (λ (p : PastOf). BeginsWithFrames p.pieces p.frames)
+        (sym (past_other past k i piece taken.0 other)) (s.heard.rest, s.heard.bytes_are)
+
+-- behind other arrivals
+pub turn_stops : (opening : Rows) (coming mid_coming left : Option (List (ℕ × Piece))) (here mid_here : Option ℕ) (count : ℕ)
+    (old_log : List (Key × Call)) (old : List ClientOf) (mid_log : List (Key × Call)) (mid : List ClientOf) (new_log : List (Key × Call))
+    (arrival : ℕ × Piece) → length mid ≡ length old → TakesSome opening coming mid_coming here mid_here count old_log old mid_log mid
+    → TakesFromFront mid_coming left (arrival ∷ []) → StopsTaking (IsServing opening) mid_log mid (arrival ∷ []) new_log
+    → StopsTurn opening coming left old_log old new_log
+turn_stops opening coming mid_coming left here mid_here count old_log old mid_log mid new_log arrival as_many first came second = record {
+  arrivals = xs ++ arrival ∷ [];
+  came = from_front_more coming mid_coming left xs (arrival ∷ []) first.came came;
+  numbered = λ asks past are.
+      let one = first.taken asks past (all_serving opening asks past old_log old are) in
+      let two = second (asks ++ asks_of_all one.0) (past_after past xs one.0) one.3 in
+      let before = begin_served opening asks past xs one.0 mid_log old mid as_many one.2 one.3 in (
+        one.0 ++ two.0,
+        All-append (λ (t : ℕ × wire.Frame). IsFromClient t.1) one.0 two.0 before.0 two.1,
+        two.2 ∙ ap first_asks (append_assoc asks (asks_of_all one.0) (asks_of_all two.0)
+            ∙ ap (λ (l : List (Key × Call)). asks ++ l) (sym (asks_more one.0 two.0))),
+        λ i. subst (λ (p : ℕ → PastOf). IfSome (slice_get old i) (λ c. BeginsWithFrames (p i).pieces (p i).frames))
+            (past_on past xs (arrival ∷ []) one.0 two.0)
+            (still i (past_after (past_after past xs one.0) (arrival ∷ []) two.0) (slice_get old i) refl (two.3 i)),
+      );
+}
+  where
+    xs : List (ℕ × Piece)
+    xs = first.arrivals
+
+    still : (i : ℕ) (now : ℕ → PastOf) (o : Option ClientOf) → slice_get old i ≡ o
+        → IfSome (slice_get mid i) (λ c. BeginsWithFrames (now i).pieces (now i).frames)
+        → IfSome o (λ c. BeginsWithFrames (now i).pieces (now i).frames)
+    still i now None e s = tt
+    still i now (Some c) e s = subst (λ o. IfSome o (λ c. BeginsWithFrames (now i).pieces (now i).frames))
+        (slice_get-get_or mid i c (omega (arith, slice_get_within old i c e, as_many))) s
+
+-- or once all of them were taken
+pub turn_stopped : (opening : Rows) (coming left : Option (List (ℕ × Piece))) (here : Option ℕ) (old_log : List (Key × Call)) (old : List ClientOf)
+    (mid_log : List (Key × Call)) (mid : List ClientOf) (new_log : List (Key × Call))
+    → ServesTurn (IsServing opening) coming left here old_log old mid_log mid → length mid ≡ length old → new_log ≡ mid_log
+    → StopsTurn opening coming left old_log old new_log
+turn_stopped opening coming left here old_log old mid_log mid new_log turn as_many same = record {
+  arrivals = turn.arrivals;
+  came = turn.came;
+  numbered = λ asks past are.
+      let took = turn.taken asks past (all_serving opening asks past old_log old are) in
+      let begin = begin_served opening asks past turn.arrivals took.0 mid_log old mid as_many took.2 took.3 in
+      (took.0, begin.0, same ∙ took.3.log_is, begin.1);
 }

@@ -12,10 +12,10 @@ use Rattle.sb_rows.specs.Rows.{Rows}
 use Rattle.sb_calls.specs.declared.ask.Key.{Key}
 use Rattle.sb_calls.specs.declared.call.Call.{Call}
 use Rattle.cown_board.proofs.StateChanges.{slice_get-set_other, slice_get-set_same}
-use Rattle.bank_server.specs.Clients.{AreServed, ClientOf, End, HadManyUnread, HasBytes, IsLeft, IsReady, IsServed, PastOf, Piece, StaysReady, StaysServed, fresh_client, no_past, past_with, sends}
+use Rattle.bank_server.specs.Clients.{AreServed, ClientOf, End, HadManyUnread, HasBytes, IsHeard, IsLeft, IsReady, IsServed, PastOf, Piece, StaysReady, StaysServed, fresh_client, no_past, past_with, sends}
 use Rattle.bank_server.specs.Session.{IsFromClient}
 use Rattle.bank_server.specs.Standing.{IsStandingWithin}
-use Rattle.bank_server.specs.declared.session.TheConstants.{UNREAD_BYTES}
+use Rattle.bank_server.specs.declared.session.client_limits.ClientLimits.{ClientLimits}
 use Rattle.bank_server.specs.declared.session.inbox.PendingAsk.{PendingAsk}
 use Rattle.bank_server.specs.declared.session.session_fault.SessionFault.TheVariants.{Frame, Unexpected, CrewGone, Device, OutOfMemory, Log, TooMany}
 use Rattle.bank_server.proofs.sessions.FrameSteps.{nothing_short}
@@ -24,8 +24,8 @@ false_is_true : false ≡ true → ⊥
 false_is_true f = cc
 
 -- a client before its first byte
-pub fresh_ready : (calls : ℕ) → IsReady calls fresh_client
-fresh_ready calls = record {
+pub fresh_ready : (limits : ClientLimits) (calls : ℕ) → IsReady calls (fresh_client limits)
+fresh_ready limits calls = record {
   sound = record {
     within = All-nil (λ (a : PendingAsk). IsStandingWithin calls a.standing);
     due = omega arith;
@@ -36,8 +36,8 @@ fresh_ready calls = record {
   none_due = refl;
 }
 
-pub fresh_served : (opening : Rows) (asks log : List (Key × Call)) → IsServed opening asks log no_past fresh_client
-fresh_served opening asks log = record {
+pub fresh_served : (limits : ClientLimits) (opening : Rows) (asks log : List (Key × Call)) → IsServed opening asks log no_past (fresh_client limits)
+fresh_served limits opening asks log = record {
   clients = All-nil IsFromClient;
   among = All-nil (Contains asks);
   given = refl;
@@ -51,11 +51,12 @@ fresh_served opening asks log = record {
   };
 }
 
-pub joins_ready : (clients : List ClientOf) → StaysReady clients (clients ++ fresh_client ∷ [])
-joins_ready clients calls ready = All-push (λ (c : ClientOf). IsReady calls c) clients fresh_client ready (fresh_ready calls)
+pub joins_ready : (limits : ClientLimits) (clients : List ClientOf) → StaysReady clients (clients ++ fresh_client limits ∷ [])
+joins_ready limits clients calls ready = All-push (λ (c : ClientOf). IsReady calls c) clients (fresh_client limits) ready (fresh_ready limits calls)
 
-pub vacates_ready : (clients : List ClientOf) (place : ℕ) → StaysReady clients (slice_set clients place fresh_client)
-vacates_ready clients place calls ready = All-set (λ (c : ClientOf). IsReady calls c) clients place fresh_client (fresh_ready calls) ready
+pub vacates_ready : (limits : ClientLimits) (clients : List ClientOf) (place : ℕ) → StaysReady clients (slice_set clients place (fresh_client limits))
+vacates_ready limits clients place calls ready =
+    All-set (λ (c : ClientOf). IsReady calls c) clients place (fresh_client limits) (fresh_ready limits calls) ready
 
 -- the past of the client at a place, and of the others
 past_there : (place : ℕ) (now : PastOf) (past : ℕ → PastOf) → past_with place now past place ≡ now
@@ -84,10 +85,10 @@ sets_served clients place new now within serves opening asks log past are =
         (subst (λ (p : PastOf). IfSome (slice_get clients i) (λ c. IsServed opening asks log p c)) (sym (past_elsewhere place i (now past) past not_mine))
         (are.each i))
 
-pub vacates_served : (clients : List ClientOf) (place : ℕ) → place < length clients
-    → StaysServed (past_with place no_past) clients (slice_set clients place fresh_client)
-vacates_served clients place within =
-    sets_served clients place fresh_client (λ past. no_past) within (λ opening asks log past are. fresh_served opening asks log)
+pub vacates_served : (limits : ClientLimits) (clients : List ClientOf) (place : ℕ) → place < length clients
+    → StaysServed (past_with place no_past) clients (slice_set clients place (fresh_client limits))
+vacates_served limits clients place within =
+    sets_served clients place (fresh_client limits) (λ past. no_past) within (λ opening asks log past are. fresh_served limits opening asks log)
 
 -- a new place behind the others
 get-push : (clients : List ClientOf) (new : ClientOf) (i : ℕ) (P : ClientOf → Type 0) → IfSome (slice_get clients i) P
@@ -97,32 +98,34 @@ get-push [] new (suc i) P h p = tt
 get-push (c ∷ clients) new zero P h p = h
 get-push (c ∷ clients) new (suc i) P h p = get-push clients new i P h (λ e. p (ap suc e))
 
-pub joins_served : (clients : List ClientOf) → StaysServed (past_with (length clients) no_past) clients (clients ++ fresh_client ∷ [])
-joins_served clients opening asks log past are = record { log_is = are.log_is; each = λ i. by i (length clients == i) refl }
+pub joins_served : (limits : ClientLimits) (clients : List ClientOf)
+    → StaysServed (past_with (length clients) no_past) clients (clients ++ fresh_client limits ∷ [])
+joins_served limits clients opening asks log past are = record { log_is = are.log_is; each = λ i. by i (length clients == i) refl }
   where
     by : (i : ℕ) (test : Bool) → (length clients == i) ≡ test
-        → IfSome (slice_get (clients ++ fresh_client ∷ []) i) (λ c. IsServed opening asks log (past_with (length clients) no_past past i) c)
-    by i true mine = get-push clients fresh_client i (λ c. IsServed opening asks log (past_with (length clients) no_past past i) c)
+        → IfSome (slice_get (clients ++ fresh_client limits ∷ []) i) (λ c. IsServed opening asks log (past_with (length clients) no_past past i) c)
+    by i true mine = get-push clients (fresh_client limits) i (λ c. IsServed opening asks log (past_with (length clients) no_past past i) c)
         (nobody (slice_get clients i) refl)
-        (λ e. subst (λ (p : PastOf). IsServed opening asks log p fresh_client)
-        (sym (ap (λ b. if b then no_past else past i) mine)) (fresh_served opening asks log))
+        (λ e. subst (λ (p : PastOf). IsServed opening asks log p (fresh_client limits))
+        (sym (ap (λ b. if b then no_past else past i) mine)) (fresh_served limits opening asks log))
       where
         nobody : (o : Option ClientOf) → slice_get clients i ≡ o → IfSome o (λ c. IsServed opening asks log (past_with (length clients) no_past past i) c)
         nobody None e = tt
         nobody (Some c) e = absurd (omega (arith, slice_get_within clients i c e, eqb-true (length clients) i mine))
-    by i false other = get-push clients fresh_client i (λ c. IsServed opening asks log (past_with (length clients) no_past past i) c)
+    by i false other = get-push clients (fresh_client limits) i (λ c. IsServed opening asks log (past_with (length clients) no_past past i) c)
         (subst (λ (p : PastOf). IfSome (slice_get clients i) (λ c. IsServed opening asks log p c)) (sym (past_elsewhere (length clients) i no_past past other))
         (are.each i))
         (λ e. absurd (false_is_true (sym other ∙ ap (λ n. length clients == n) e ∙ eqb-refl (length clients))))
 
 -- ---- a connection that takes outcomes
 
-still_many : (sent outcomes : List ℕ) (count : ℕ) → HadManyUnread sent outcomes → HadManyUnread (sent ++ take count outcomes) (drop count outcomes)
-still_many sent outcomes count (before, since, is, many) = (
+still_many : (most : ℕ) (sent outcomes : List ℕ) (count : ℕ) → HadManyUnread most sent outcomes
+    → HadManyUnread most (sent ++ take count outcomes) (drop count outcomes)
+still_many most sent outcomes count (before, since, is, many) = (
   before,
   since ++ take count outcomes,
   ap (λ (l : List ℕ). l ++ take count outcomes) is ∙ append_assoc before since (take count outcomes),
-  subst (λ (l : List ℕ). UNREAD_BYTES < length l)
+  subst (λ (l : List ℕ). most < length l)
       (ap (λ (l : List ℕ). since ++ l) (sym (take-append-drop count outcomes)) ∙ sym (append_assoc since (take count outcomes) (drop count outcomes))) many,
 )
 
@@ -134,10 +137,19 @@ left_sent (Some (Err (Frame fault))) past client count rest is = is
 left_sent (Some (Err Unexpected)) past client count rest is = is
 left_sent (Some (Err CrewGone)) past client count rest is = is
 left_sent (Some (Err Device)) past client count rest (inl failed) = inl failed
-left_sent (Some (Err Device)) past client count rest (inr many) = inr (still_many past.sent client.outcomes count many)
+left_sent (Some (Err Device)) past client count rest (inr many) = inr (still_many client.limits.unread past.sent client.outcomes count many)
 left_sent (Some (Err OutOfMemory)) past client count rest is = is
 left_sent (Some (Err (Log fault))) past client count rest is = is
 left_sent (Some (Err TooMany)) past client count rest is = is
+
+pub heard_sent : (past : PastOf) (client : ClientOf) (count : ℕ) → IsHeard past client
+    → IsHeard (record past { sent = past.sent ++ take count client.outcomes }) (record client { outcomes = drop count client.outcomes })
+heard_sent past client count heard = record {
+  rest = heard.rest;
+  bytes_are = heard.bytes_are;
+  left = left_sent client.ending past client count heard.rest heard.left;
+  failed = heard.failed;
+}
 
 served_sent : (opening : Rows) (asks log : List (Key × Call)) (past : PastOf) (client : ClientOf) (count : ℕ) → IsServed opening asks log past client
     → IsServed opening asks log (record past { sent = past.sent ++ take count client.outcomes }) (record client { outcomes = drop count client.outcomes })
@@ -148,12 +160,7 @@ served_sent opening asks log past client count served = record {
       ∙ ap (λ (l : List ℕ). past.sent ++ l) (take-append-drop count client.outcomes) ∙ served.given;
   waiting = served.waiting;
   none_due = served.none_due;
-  heard = record {
-    rest = served.heard.rest;
-    bytes_are = served.heard.bytes_are;
-    left = left_sent client.ending past client count served.heard.rest served.heard.left;
-    failed = served.heard.failed;
-  };
+  heard = heard_sent past client count served.heard;
 }
 
 pub sends_served : (clients : List ClientOf) (place count : ℕ) (client : ClientOf) → slice_get clients place ≡ Some client
@@ -176,7 +183,7 @@ sends_ready clients place count client is calls ready =
     fewer : length (drop count client.outcomes) ≤ length client.outcomes
     fewer = omega (arith, length-append (take count client.outcomes) (drop count client.outcomes), ap length (take-append-drop count client.outcomes))
 
-    few : client.ending ≡ None → length (drop count client.outcomes) ≤ UNREAD_BYTES
+    few : client.ending ≡ None → length (drop count client.outcomes) ≤ client.limits.unread
     few e = omega (arith, fewer, was.sound.few_unread e)
 
     one : IsReady calls (record client { outcomes = drop count client.outcomes })

@@ -16,14 +16,15 @@ use Rattle.sb_frames.specs.declared.frame.Frame as wire
 use Rattle.sb_sequencer.specs.Numbering.{first_asks}
 use Rattle.bank_server.specs.Clients.{ClientOf, End, HadManyUnread, HasBytes, IsHeard, IsLeft, IsServed, PastOf, Piece, bytes_of}
 use Rattle.bank_server.specs.Pending.{pending_ask, unflushed_asks}
-use Rattle.bank_server.specs.Session.{asks_in, flushed_asks, outcome_of}
+use Rattle.bank_server.specs.Session.{IsFromClient, asks_in, flushed_asks, outcome_of}
 use Rattle.bank_server.specs.SessionResults.{IsFaultAt}
-use Rattle.bank_server.specs.declared.session.TheConstants.{ASKS_BEFORE_FLUSH, UNREAD_BYTES}
+use Rattle.bank_server.specs.declared.session.client_limits.ClientLimits.{ClientLimits}
 use Rattle.bank_server.specs.declared.session.session_fault.SessionFault.{SessionFault}
 use Rattle.bank_server.specs.declared.session.session_fault.SessionFault.TheVariants.{Frame, Unexpected, CrewGone, Device, OutOfMemory, Log, TooMany}
-use Rattle.bank_server.specs.inner.ClientSteps.{HandlesClient, ReachesClient, StopsClient, TellsDue}
-use Rattle.bank_server.specs.inner.ClientTurns.{HearsClient, IsServing, TellsClient, ending_at_failure, ending_of, state_of_client}
+use Rattle.bank_server.specs.inner.ClientSteps.{ClientState, HandlesClient, ReachesClient, StopsClient, TellsDue}
+use Rattle.bank_server.specs.inner.ClientTurns.{HearsClient, IsServing, StopsHearing, TellsClient, ending_at_failure, ending_of, state_of_client}
 use Rattle.bank_server.proofs.sessions.FrameSteps.{bad_at, further}
+use Rattle.bank_server.proofs.clients.ClientAsks.{All-behind}
 use Rattle.bank_server.proofs.clients.ClientSteps.{many_unflushed}
 
 -- ---- pieces
@@ -49,7 +50,7 @@ over_after pieces more end none there = by (ends_or_goes_on pieces)
     by (inr over) = over more
 
 -- one more piece is more bytes, or none
-bytes_on : (pieces more : List Piece) → (extra : List ℕ) × (bytes_of (pieces ++ more) ≡ bytes_of pieces ++ extra)
+pub bytes_on : (pieces more : List Piece) → (extra : List ℕ) × (bytes_of (pieces ++ more) ≡ bytes_of pieces ++ extra)
 bytes_on [] more = (bytes_of more, refl)
 bytes_on (None ∷ pieces) more = ([], refl)
 bytes_on (Some [] ∷ pieces) more = ([], refl)
@@ -58,7 +59,7 @@ bytes_on (Some (byte ∷ bytes) ∷ pieces) more =
     (rest.0, ap (λ (l : List ℕ). (byte ∷ bytes) ++ l) rest.1 ∙ sym (append_assoc (byte ∷ bytes) (bytes_of pieces) rest.0))
 
 -- of a client that goes on
-bytes_then : (pieces more : List Piece) → All HasBytes pieces → bytes_of (pieces ++ more) ≡ bytes_of pieces ++ bytes_of more
+pub bytes_then : (pieces more : List Piece) → All HasBytes pieces → bytes_of (pieces ++ more) ≡ bytes_of pieces ++ bytes_of more
 bytes_then [] more all = refl
 bytes_then (None ∷ pieces) more all = absurd (All-head HasBytes None pieces all)
 bytes_then (Some [] ∷ pieces) more all = absurd (All-head HasBytes (Some []) pieces all)
@@ -70,19 +71,19 @@ pub has_bytes : (bytes : List ℕ) → 0 < length bytes → HasBytes (Some bytes
 has_bytes [] lt = absurd (omega (arith, lt))
 has_bytes (byte ∷ bytes) lt = tt
 
-one_piece : (bytes : List ℕ) → HasBytes (Some bytes) → bytes_of (Some bytes ∷ []) ≡ bytes
-one_piece [] has = absurd has
-one_piece (byte ∷ bytes) has = append-nil (byte ∷ bytes)
+one_piece : (bytes : List ℕ) → bytes_of (Some bytes ∷ []) ≡ bytes
+one_piece [] = refl
+one_piece (byte ∷ bytes) = append-nil (byte ∷ bytes)
 
 ends_there : (pieces : List Piece) (piece : Piece) → Contains (pieces ++ piece ∷ []) piece
 ends_there pieces piece = Contains-append_right pieces (piece ∷ []) piece (All-head (Contains (piece ∷ [])) piece [] (All-contains_itself (piece ∷ [])))
 
 -- ---- what is heard
 
-abbrev IsHeardBy : Option End → PastOf → ClientOf → Type 0
+abbrev pub IsHeardBy : Option End → PastOf → ClientOf → Type 0
 IsHeardBy ending past client = (rest : List ℕ) × (bytes_of past.pieces ≡ flat_map spelling past.frames ++ rest) × IsLeft ending past client rest
 
-heard_by : (ending : Option End) (past : PastOf) (client : ClientOf) → client.ending ≡ ending → IsHeard past client → IsHeardBy ending past client
+pub heard_by : (ending : Option End) (past : PastOf) (client : ClientOf) → client.ending ≡ ending → IsHeard past client → IsHeardBy ending past client
 heard_by ending past client same heard =
     (heard.rest, heard.bytes_are, subst (λ e. IsLeft e past client heard.rest) same heard.left)
 
@@ -120,31 +121,34 @@ failed_now : (past : PastOf) (new : ClientOf) → new.broken ≡ true → IsFail
 failed_now past new is = (λ e. ends_there past.pieces None, λ there. is)
 
 -- what was heard stays heard when outcomes are given
-heard_told : (ending : Option End) (past : PastOf) (old new : ClientOf) (bytes : List ℕ) → new.stream ≡ old.stream → new.outcomes ≡ old.outcomes ++ bytes
+heard_told : (ending : Option End) (past : PastOf) (old new : ClientOf) (bytes : List ℕ) → new.limits ≡ old.limits → new.stream ≡ old.stream
+    → new.outcomes ≡ old.outcomes ++ bytes
     → IsHeardBy ending past old → IsHeardBy ending past new
-heard_told None past old new bytes stream given (rest, are, (all, unread, short)) =
+heard_told None past old new bytes limits stream given (rest, are, (all, unread, short)) =
     (rest, are, (all, unread ∙ ap (λ (s : StreamState). s.unread) (sym stream), subst IsShort (sym stream) short))
-heard_told (Some (Ok done)) past old new bytes stream given is = is
-heard_told (Some (Err (Frame fault))) past old new bytes stream given is = is
-heard_told (Some (Err Unexpected)) past old new bytes stream given is = is
-heard_told (Some (Err CrewGone)) past old new bytes stream given is = is
-heard_told (Some (Err OutOfMemory)) past old new bytes stream given is = is
-heard_told (Some (Err (Log fault))) past old new bytes stream given is = is
-heard_told (Some (Err TooMany)) past old new bytes stream given is = is
-heard_told (Some (Err Device)) past old new bytes stream given (rest, are, inl there) = (rest, are, inl there)
-heard_told (Some (Err Device)) past old new bytes stream given (rest, are, inr (before, since, sent, many)) = (
+heard_told (Some (Ok done)) past old new bytes limits stream given is = is
+heard_told (Some (Err (Frame fault))) past old new bytes limits stream given is = is
+heard_told (Some (Err Unexpected)) past old new bytes limits stream given is = is
+heard_told (Some (Err CrewGone)) past old new bytes limits stream given is = is
+heard_told (Some (Err OutOfMemory)) past old new bytes limits stream given is = is
+heard_told (Some (Err (Log fault))) past old new bytes limits stream given is = is
+heard_told (Some (Err TooMany)) past old new bytes limits stream given (rest, are, (at, many)) =
+    (rest, are, (at, many ∙ ap (λ (l : ClientLimits). l.asks) (sym limits)))
+heard_told (Some (Err Device)) past old new bytes limits stream given (rest, are, inl there) = (rest, are, inl there)
+heard_told (Some (Err Device)) past old new bytes limits stream given (rest, are, inr (before, since, sent, many)) = (
   rest,
   are,
   inr (
     before,
     since,
     sent,
-    subst (λ (o : List ℕ). UNREAD_BYTES < length (since ++ o)) (sym given)
-        (subst (λ (o : List ℕ). UNREAD_BYTES < length o) (append_assoc since old.outcomes bytes) longer),
+    subst (λ (l : ClientLimits). l.unread < length (since ++ new.outcomes)) (sym limits)
+        (subst (λ (o : List ℕ). old.limits.unread < length (since ++ o)) (sym given)
+        (subst (λ (o : List ℕ). old.limits.unread < length o) (append_assoc since old.outcomes bytes) longer)),
   ),
 )
   where
-    longer : UNREAD_BYTES < length ((since ++ old.outcomes) ++ bytes)
+    longer : old.limits.unread < length ((since ++ old.outcomes) ++ bytes)
     longer = omega (arith, many, length-append (since ++ old.outcomes) bytes)
 
 -- a client that ended isn't heard
@@ -180,8 +184,8 @@ deaf_by (Err Device) past piece client (rest, are, why) =
     let on = bytes_on past.pieces (piece ∷ []) in
     (rest ++ on.0, on.1 ∙ ap (λ (l : List ℕ). l ++ on.0) are ∙ append_assoc (flat_map spelling past.frames) rest on.0, still why)
   where
-    still : Contains past.pieces None ⊎ HadManyUnread past.sent client.outcomes
-        → Contains (past.pieces ++ piece ∷ []) None ⊎ HadManyUnread past.sent client.outcomes
+    still : Contains past.pieces None ⊎ HadManyUnread client.limits.unread past.sent client.outcomes
+        → Contains (past.pieces ++ piece ∷ []) None ⊎ HadManyUnread client.limits.unread past.sent client.outcomes
     still (inl there) = inl (Contains-append_left past.pieces (piece ∷ []) None there)
     still (inr many) = inr many
 deaf_by (Err CrewGone) past piece client (rest, are, is) = absurd is
@@ -283,8 +287,18 @@ hears_failure opening log old new same = nothing_taken opening log old new None 
     by (Some end) is past heard =
         let now : PastOf = record past { pieces = past.pieces ++ None ∷ [] } in
         heard_from (Some end) now (broken_off old) (ap ending_at_failure is)
-        (heard_told (Some end) now old (broken_off old) [] refl (sym (append-nil old.outcomes))
+        (heard_told (Some end) now old (broken_off old) [] refl refl (sym (append-nil old.outcomes))
         (deaf_by end past None old (heard_by (Some end) past old is heard))) (failed_now past (broken_off old) refl)
+
+-- the bytes of one more piece, behind those of pieces before
+bytes_further : (past : PastOf) (old : ClientOf) (bytes rest : List ℕ) (more : List wire.Frame) → IsHeardBy None past old
+    → old.stream.unread ++ bytes ≡ flat_map spelling more ++ rest
+    → bytes_of (past.pieces ++ Some bytes ∷ []) ≡ flat_map spelling (past.frames ++ more) ++ rest
+bytes_further past old bytes rest more was read =
+    bytes_then past.pieces (Some bytes ∷ []) was.2.0
+    ∙ ap (λ (l : List ℕ). bytes_of past.pieces ++ l) (one_piece bytes)
+    ∙ further bytes (bytes_of past.pieces) old.stream.unread rest past.frames more
+    (was.1 ∙ ap (λ (l : List ℕ). flat_map spelling past.frames ++ l) was.2.1) read
 
 -- its bytes were taken as far as they are handled, and the rest is left
 takes_bytes : (opening : Rows) (old_log : List (Key × Call)) (old : ClientOf) (bytes : List ℕ) (new_log : List (Key × Call)) (new : ClientOf)
@@ -305,10 +319,7 @@ takes_bytes opening old_log old bytes new_log new rest on has broken handles lef
         reached = reached;
         heard = record {
           rest = rest;
-          bytes_are = bytes_then past.pieces (Some bytes ∷ []) was.2.0
-              ∙ ap (λ (l : List ℕ). bytes_of past.pieces ++ l) (one_piece bytes has)
-              ∙ further bytes (bytes_of past.pieces) old.stream.unread rest past.frames handles.more
-              (was.1 ∙ ap (λ (l : List ℕ). flat_map spelling past.frames ++ l) was.2.1) handles.read;
+          bytes_are = bytes_further past old bytes rest handles.more was handles.read;
           left = left now (asks ++ asks_in handles.more) (All-push HasBytes past.pieces (Some bytes) was.2.0 has) reached;
           failed = failed_on past bytes old new broken serving.heard;
         };
@@ -325,7 +336,7 @@ hears_well opening old_log old bytes new_log new on has broken same short handle
 
 hears_bad : (opening : Rows) (old_log : List (Key × Call)) (old : ClientOf) (bytes : List ℕ) (new_log : List (Key × Call)) (new : ClientOf) (fault : FrameFault)
     → is_some old.ending ≡ false → HasBytes (Some bytes) → new.broken ≡ old.broken → new.ending ≡ Some (Err (Frame fault))
-    → StopsClient opening ASKS_BEFORE_FLUSH (state_of_client old_log old) (old.stream.unread ++ bytes) (Frame fault) (state_of_client new_log new)
+    → StopsClient opening new.limits.asks (state_of_client old_log old) (old.stream.unread ++ bytes) (Frame fault) (state_of_client new_log new)
     → HearsClient opening old_log old (Some bytes) new_log new
 hears_bad opening old_log old bytes new_log new fault on has broken is stops =
     takes_bytes opening old_log old bytes new_log new stops.rest on has broken stops.handles
@@ -334,7 +345,7 @@ hears_bad opening old_log old bytes new_log new fault on has broken is stops =
 
 hears_unexpected : (opening : Rows) (old_log : List (Key × Call)) (old : ClientOf) (bytes : List ℕ) (new_log : List (Key × Call)) (new : ClientOf)
     → is_some old.ending ≡ false → HasBytes (Some bytes) → new.broken ≡ old.broken → new.ending ≡ Some (Err Unexpected)
-    → StopsClient opening ASKS_BEFORE_FLUSH (state_of_client old_log old) (old.stream.unread ++ bytes) Unexpected (state_of_client new_log new)
+    → StopsClient opening new.limits.asks (state_of_client old_log old) (old.stream.unread ++ bytes) Unexpected (state_of_client new_log new)
     → HearsClient opening old_log old (Some bytes) new_log new
 hears_unexpected opening old_log old bytes new_log new on has broken is stops =
     takes_bytes opening old_log old bytes new_log new stops.rest on has broken stops.handles
@@ -342,20 +353,20 @@ hears_unexpected opening old_log old bytes new_log new on has broken is stops =
 
 hears_many : (opening : Rows) (old_log : List (Key × Call)) (old : ClientOf) (bytes : List ℕ) (new_log : List (Key × Call)) (new : ClientOf)
     → is_some old.ending ≡ false → HasBytes (Some bytes) → new.broken ≡ old.broken → new.ending ≡ Some (Err TooMany)
-    → StopsClient opening ASKS_BEFORE_FLUSH (state_of_client old_log old) (old.stream.unread ++ bytes) TooMany (state_of_client new_log new)
+    → StopsClient opening new.limits.asks (state_of_client old_log old) (old.stream.unread ++ bytes) TooMany (state_of_client new_log new)
     → HearsClient opening old_log old (Some bytes) new_log new
 hears_many opening old_log old bytes new_log new on has broken is stops =
     takes_bytes opening old_log old bytes new_log new stops.rest on has broken stops.handles
     (λ past asks all reached. subst (λ e. IsLeft e past new stops.rest) (sym is) (
       subst (IsFaultAt TooMany) (append-nil stops.rest) (stops.at []),
-      many_unflushed opening asks past.sent past.frames (state_of_client new_log new) ASKS_BEFORE_FLUSH reached stops.of_frames,
+      many_unflushed opening asks past.sent past.frames (state_of_client new_log new) new.limits.asks reached stops.of_frames,
     ))
 
 -- its bytes were taken up to a fault of its own
 pub hears_fault : (opening : Rows) (old_log : List (Key × Call)) (old : ClientOf) (bytes : List ℕ) (new_log : List (Key × Call)) (new : ClientOf)
     (fault : SessionFault) → is_some old.ending ≡ false → HasBytes (Some bytes) → new.broken ≡ old.broken → new.ending ≡ Some (Err fault)
     → fault ≢ OutOfMemory
-    → StopsClient opening ASKS_BEFORE_FLUSH (state_of_client old_log old) (old.stream.unread ++ bytes) fault (state_of_client new_log new)
+    → StopsClient opening new.limits.asks (state_of_client old_log old) (old.stream.unread ++ bytes) fault (state_of_client new_log new)
     → HearsClient opening old_log old (Some bytes) new_log new
 hears_fault opening old_log old bytes new_log new (Frame fault) on has broken is other stops =
     hears_bad opening old_log old bytes new_log new fault on has broken is stops
@@ -368,27 +379,67 @@ hears_fault opening old_log old bytes new_log new (Log fault) on has broken is o
 hears_fault opening old_log old bytes new_log new TooMany on has broken is other stops =
     hears_many opening old_log old bytes new_log new on has broken is stops
 
+-- ---- where memory was refused
+
+-- its bytes were taken up to there
+pub stops_hearing : (opening : Rows) (old_log : List (Key × Call)) (old : ClientOf) (bytes : List ℕ) (most : ℕ) (fault : SessionFault) (at : ClientState)
+    → is_some old.ending ≡ false
+    → StopsClient opening most (state_of_client old_log old) (old.stream.unread ++ bytes) fault at
+    → StopsHearing opening old_log old (Some bytes) at.log
+stops_hearing opening old_log old bytes most fault at on stops asks past log_is serving =
+    let was = heard_by None past old (none_now old.ending on) serving.heard in
+    let more = stops.handles.more in
+    let reached : ReachesClient opening (asks ++ asks_in more) past.sent (past.frames ++ more) at =
+    stops.handles.leads asks past.sent past.frames serving.reached in (
+      more,
+      All-behind IsFromClient past.frames more reached.clients,
+      reached.log_is,
+      (stops.rest, bytes_further past old bytes stops.rest more was stops.handles.read),
+    )
+
+-- or later on
+pub stops_behind : (opening : Rows) (old_log : List (Key × Call)) (old : ClientOf) (piece : Piece) (mid_log : List (Key × Call)) (mid : ClientOf)
+    (new_log : List (Key × Call)) → HearsClient opening old_log old piece mid_log mid → new_log ≡ mid_log
+    → StopsHearing opening old_log old piece new_log
+stops_behind opening old_log old piece mid_log mid new_log hears same asks past log_is serving =
+    let (more, log, heard) = hears asks past log_is serving in (
+      more,
+      All-behind IsFromClient past.frames more heard.reached.clients,
+      same ∙ log,
+      (heard.heard.rest, heard.heard.bytes_are),
+    )
+
 -- ---- what is told
 
 -- a client ends in a turn if too many of its outcomes are unread
 abbrev pub EndsByUnread : ClientOf → ClientOf → Type 0
-EndsByUnread old new = (old.ending ≡ None) × (new.ending ≡ Some (Err Device)) × (UNREAD_BYTES < length new.outcomes)
+EndsByUnread old new = (old.ending ≡ None) × (new.ending ≡ Some (Err Device)) × (old.limits.unread < length new.outcomes)
 
-heard_after : (past : PastOf) (old new : ClientOf) (bytes : List ℕ) → new.stream ≡ old.stream → new.broken ≡ old.broken
+heard_after : (past : PastOf) (old new : ClientOf) (bytes : List ℕ) → new.limits ≡ old.limits → new.stream ≡ old.stream → new.broken ≡ old.broken
     → new.outcomes ≡ old.outcomes ++ bytes → (new.ending ≡ old.ending) ⊎ EndsByUnread old new → IsHeard past old → IsHeard past new
-heard_after past old new bytes stream broken given (inl same) heard =
-    heard_from old.ending past new same (heard_told old.ending past old new bytes stream given (heard_by old.ending past old refl heard))
+heard_after past old new bytes limits stream broken given (inl same) heard =
+    heard_from old.ending past new same (heard_told old.ending past old new bytes limits stream given (heard_by old.ending past old refl heard))
     (failed_still past old new broken heard)
-heard_after past old new bytes stream broken given (inr (on, is, many)) heard =
+heard_after past old new bytes limits stream broken given (inr (on, is, many)) heard =
     let was = heard_by None past old on heard in
-    heard_from (Some (Err Device)) past new is (was.0, was.1, inr (past.sent, [], sym (append-nil past.sent), many)) (failed_still past old new broken heard)
+    heard_from (Some (Err Device)) past new is (
+      was.0,
+      was.1,
+      inr (
+        past.sent,
+        [],
+        sym (append-nil past.sent),
+        subst (λ (l : ClientLimits). l.unread < length new.outcomes) (sym limits) many,
+      ),
+    ) (failed_still past old new broken heard)
 
-pub tells_client : (opening : Rows) (log : List (Key × Call)) (old new : ClientOf) (bytes : List ℕ) → new.stream ≡ old.stream → new.broken ≡ old.broken
+pub tells_client : (opening : Rows) (log : List (Key × Call)) (old new : ClientOf) (bytes : List ℕ) → new.limits ≡ old.limits → new.stream ≡ old.stream
+    → new.broken ≡ old.broken
     → TellsDue opening (state_of_client log old) (state_of_client log new) → new.outcomes ≡ old.outcomes ++ bytes
     → (new.ending ≡ old.ending) ⊎ EndsByUnread old new → TellsClient opening log old new
-tells_client opening log old new bytes stream broken tells appended ending asks past serving = record {
+tells_client opening log old new bytes limits stream broken tells appended ending asks past serving = record {
   reached = tells asks past.sent past.frames serving.reached;
-  heard = heard_after past old new bytes stream broken appended ending serving.heard;
+  heard = heard_after past old new bytes limits stream broken appended ending serving.heard;
 }
 
 -- ---- between turns

@@ -1,5 +1,5 @@
 -- Who is stirred in a turn: told something, or ended.
-use Rattle.std.proofs.Common.{◌≡◌, ℕ, ◌+◌, ◌<◌, drop, get_or, Bool, true, false, Option, Some, None, List, [], ◌∷◌, ◌++◌, length, refl, sym, ap, subst, ◌∙◌, inl, inr}
+use Rattle.std.proofs.Common.{◌≡◌, ℕ, zero, suc, map, ◌+◌, ◌<◌, drop, get_or, Bool, true, false, Option, Some, None, is_some, List, [], ◌∷◌, ◌++◌, length, refl, sym, ap, subst, ◌∙◌, inl, inr}
 use Rattle.std.specs.Prelude.{◌==◌, ◌≢◌, ◌⊎◌, IfSome, slice_get, slice_set}
 use Rattle.std.specs.List.{All, Contains}
 use Rattle.std.proofs.lemmas.Bool.{eqb-true}
@@ -8,11 +8,25 @@ use Rattle.std.proofs.lemmas.List.{drop_more, nil_from_length}
 use Rattle.std.proofs.lemmas.Option.{get_or_from_slice_get, slice_get-get_or, slice_get_within}
 use Rattle.sb_calls.proofs.CownContents.{eqb-refl}
 use Rattle.cown_board.proofs.StateChanges.{slice_get-set_other, slice_get-set_same}
-use Rattle.bank_server.specs.Clients.{AreCalmBut, ClientOf, IsCalm, IsReady, IsSound}
+use Rattle.bank_server.specs.Clients.{AreCalmBut, AreUntold, ClientOf, End, IsCalm, IsReady, IsSound}
 use Rattle.bank_server.specs.inner.ClientTurns.{AreDueWithin}
 
 false_is_true : false ≡ true → ⊥
 false_is_true f = cc
+
+some_is : {A : Type 0} {x y : A} → ◌≡◌ {A = Option A} (Some x) (Some y) → x ≡ y
+some_is h = cc
+
+none_is_some : {A : Type 0} {x : A} → ◌≡◌ {A = Option A} None (Some x) → ⊥
+none_is_some h = cc
+
+-- one client is put in the place of another one that has the same outcomes
+pub untold_but_one : (clients : List ClientOf) (k : ℕ) (old new : ClientOf) → slice_get clients k ≡ Some old → new.outcomes ≡ old.outcomes
+    → AreUntold clients (slice_set clients k new)
+untold_but_one [] k old new is same = absurd (none_is_some is)
+untold_but_one (client ∷ clients) zero old new is same =
+    ap (λ l. l ∷ map (λ (x : ClientOf). x.outcomes) clients) (same ∙ ap (λ (x : ClientOf). x.outcomes) (sym (some_is is)))
+untold_but_one (client ∷ clients) (suc k) old new is same = ap (λ l. client.outcomes ∷ l) (untold_but_one clients k old new is same)
 
 -- at first nobody is
 pub calm_at_first : (clients : List ClientOf) → All (λ (c : ClientOf). c.due ≡ 0) clients → AreCalmBut [] clients clients
@@ -42,6 +56,12 @@ calm_but_one stirred first olds k new calm i = by (k == i) refl
     by false not_mine =
         let apart : i ≢ k = λ e. false_is_true (sym not_mine ∙ ap (λ n. k == n) e ∙ eqb-refl k) in
         subst (λ o. IsCalm (slice_get first i) o ⊎ Contains (stirred ++ k ∷ []) i) (sym (slice_get-set_other olds k i new apart)) (other (calm i))
+
+-- a client that is as over as it was has the same ending
+pub same_ending : (old new : Option End) → (is_some old ≡ true → new ≡ old) → is_some new ≡ is_some old → new ≡ old
+same_ending None None over same = refl
+same_ending None (Some end) over same = absurd (false_is_true (sym same))
+same_ending (Some end) new over same = over refl
 
 -- a client that was given nothing and didn't end isn't
 pub calm_still : (stirred : List ℕ) (first olds : List ClientOf) (k : ℕ) (old new : ClientOf) → slice_get olds k ≡ Some old

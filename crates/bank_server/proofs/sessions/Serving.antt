@@ -1,16 +1,14 @@
 -- Steps that go on with the bank, one after another.
-use Rattle.std.proofs.Common.{◌≡◌, Bool, true, false, Result, ap, subst, sym}
+use Rattle.std.proofs.Common.{◌≡◌, Bool, true, false, Result, Err, ap, subst, sym}
 use Rattle.std.specs.Prelude.{IfErr}
 use Rattle.sb_log.specs.declared.log_fault.LogFault.{LogFault}
 use Rattle.sb_log.specs.declared.log_fault.LogFault.TheVariants as logs
 use Rattle.sb_ask_log.specs.Keeping.{IsKeepFault, KeeperModel}
 use Rattle.sb_replica.specs.Replica.{ReplicaOf}
-use Rattle.cown_board.specs.Board.{BoardOf}
 use Rattle.cown_workers.specs.Draining.{HasNoneOut}
-use Rattle.sb_calls.specs.declared.op.Op.{Op}
 use Rattle.bank_server.specs.Primary.{PreservesBank, PrimaryOf}
 use Rattle.bank_server.specs.ServesOn.{ServesOn}
-use Rattle.bank_server.specs.SessionFaults.{IsLogFault, LosesCrew, LosesLog}
+use Rattle.bank_server.specs.SessionFaults.{LosesCrew, LosesLog}
 use Rattle.bank_server.specs.inner.NumberedAsks.{NumbersAsks}
 use Rattle.bank_server.specs.declared.session.session_fault.SessionFault.{SessionFault}
 use Rattle.bank_server.specs.declared.session.session_fault.SessionFault.TheVariants.{Frame, Unexpected, CrewGone, Device, OutOfMemory, Log, TooMany}
@@ -19,26 +17,6 @@ use Rattle.bank_server.proofs.sessions.FrameSteps.{keeps_on, loses_behind}
 use Rattle.bank_server.proofs.sessions.Keeping.{stays_bank}
 
 -- ---- what a fault shows
-
--- a fault of the log is none of the crew
-log_keeps_crew : (fails failed crew_keeps : Bool) (board : BoardOf Op) (fault : SessionFault) → IsLogFault fails failed fault
-    → LosesCrew crew_keeps board fault
-log_keeps_crew fails failed crew_keeps board (Frame fault) is = tt
-log_keeps_crew fails failed crew_keeps board Unexpected is = tt
-log_keeps_crew fails failed crew_keeps board CrewGone is = absurd is
-log_keeps_crew fails failed crew_keeps board Device is = tt
-log_keeps_crew fails failed crew_keeps board OutOfMemory is = tt
-log_keeps_crew fails failed crew_keeps board (Log fault) is = tt
-log_keeps_crew fails failed crew_keeps board TooMany is = tt
-
-log_lost_so : (fails failed : Bool) (fault : SessionFault) → IsLogFault fails failed fault → LosesLog fails failed fault
-log_lost_so fails failed (Frame fault) is = tt
-log_lost_so fails failed Unexpected is = tt
-log_lost_so fails failed CrewGone is = tt
-log_lost_so fails failed Device is = tt
-log_lost_so fails failed OutOfMemory is = tt
-log_lost_so fails failed (Log fault) is = is
-log_lost_so fails failed TooMany is = tt
 
 -- a keeper that has failed has failed for good
 kept_fault : (fails mid new : Bool) (fault : LogFault) → (mid ≡ true → new ≡ true) → IsKeepFault fails mid fault → IsKeepFault fails new fault
@@ -85,15 +63,16 @@ module _ {S K : Type 0} {model : KeeperModel K} {crew_keeps : Bool} where
   serves_numbered result old mid new asked step =
       serves_behind result old mid new asked.bank (λ e none. none_out_still old mid asked.node none) step
 
-  -- keeping the log is such a step
-  pub keep_serves : {T : Type 0} (result : Result T SessionFault) (old new : PrimaryOf S K) → PreservesBank model old new
-      → new ≡ record old { keeper = new.keeper } → IfErr result (IsLogFault model.fails (model.has_failed new.keeper))
-      → ServesOn model crew_keeps result old new
-  keep_serves result old new bank same is = record {
-    bank = bank;
-    none_out = λ e none. none_out_still old new (ap (λ (p : PrimaryOf S K). p.node) same) none;
-    crew_lost = if_err result (log_keeps_crew model.fails (model.has_failed new.keeper) crew_keeps old.node.board) is;
-    log_lost = if_err result (log_lost_so model.fails (model.has_failed new.keeper)) is;
+  -- the log can't be kept then, whatever the result of the step was
+  pub keep_fails : {T : Type 0} (fault : LogFault) (old mid new : PrimaryOf S K) → PreservesBank model old mid
+      → (crew_keeps ≡ false → HasNoneOut old.node.board → HasNoneOut mid.node.board) → PreservesBank model mid new
+      → new ≡ record mid { keeper = new.keeper } → IsKeepFault model.fails (model.has_failed new.keeper) fault
+      → ServesOn {T = T} model crew_keeps (Err (Log fault)) old new
+  keep_fails fault old mid new first none_out bank same is = record {
+    bank = keeps_on old mid new first bank;
+    none_out = λ e none. none_out_still mid new (ap (λ (p : PrimaryOf S K). p.node) same) (none_out e none);
+    crew_lost = tt;
+    log_lost = is;
   }
 
   -- a step with this result, and the log is kept then

@@ -1,27 +1,30 @@
 -- Clients within a turn, when outcomes may be due.
-use Rattle.std.specs.Prelude.{◌≡◌, ◌⊎◌, ℕ, Bool, Option, Some, None, Ok, Err, List, ◌∷◌, [], ◌++◌, length, IfSome, slice_get}
-use Rattle.std.specs.List.{Contains}
+use Rattle.std.specs.Prelude.{◌≡◌, ◌⊎◌, ◌<◌, ℕ, Bool, Option, Some, None, Ok, Err, List, ◌∷◌, [], ◌++◌, length, IfSome, slice_get}
+use Rattle.std.specs.List.{All, Contains, flat_map}
 use Rattle.sb_rows.specs.Rows.{Rows}
 use Rattle.sb_calls.specs.declared.ask.Key.{Key}
 use Rattle.sb_calls.specs.declared.call.Call.{Call}
+use Rattle.sb_frames.specs.Grammar.{spelling}
 use Rattle.sb_frames.specs.declared.fault.FrameFault.TheVariants.{Short}
 use Rattle.sb_frames.specs.declared.frame.Frame as wire
 use Rattle.sb_sequencer.specs.Numbering.{first_asks}
-use Rattle.bank_server.specs.Clients.{AreServed, ClientOf, End, IsHeard, PastOf, Piece, TakesArrivals, TakesFromFront, TakesOfThem}
-use Rattle.bank_server.specs.Session.{asks_in}
+use Rattle.bank_server.specs.Clients.{AreServed, ClientOf, End, IsHeard, PastOf, Piece, TakesArrivals, TakesFromFront, TakesOfThem, asks_of_all, bytes_of, frames_of_client, pieces_of_client}
+use Rattle.bank_server.specs.Session.{IsFromClient, asks_in}
 use Rattle.bank_server.specs.declared.node0.ask_counts.AskCounts.{AskCounts}
+use Rattle.bank_server.specs.declared.session.client_limits.ClientLimits.{ClientLimits}
 use Rattle.bank_server.specs.declared.session.inbox.Inbox.{Inbox}
 use Rattle.bank_server.specs.declared.session.session_fault.SessionFault.TheVariants.{Frame, Device}
 use Rattle.bank_server.specs.inner.ClientSteps.{ClientState, ReachesClient}
 
 -- a client with this inbox
-abbrev pub client_of : Inbox → List ℕ → AskCounts → Option End → Bool → ClientOf
-client_of inbox outcomes counts ending broken = record {
+abbrev pub client_of : Inbox → List ℕ → AskCounts → ClientLimits → Option End → Bool → ClientOf
+client_of inbox outcomes counts limits ending broken = record {
   stream = inbox.stream;
   pending = inbox.pending.items;
   due = inbox.due;
   outcomes = outcomes;
   counts = counts;
+  limits = limits;
   ending = ending;
   broken = broken;
 }
@@ -53,6 +56,39 @@ HearsClient opening old_log old piece new_log new =
     → (more : List wire.Frame) × (new_log ≡ first_asks (asks ++ asks_in more))
     × IsServing opening (asks ++ asks_in more) new_log
     (record { pieces = past.pieces ++ piece ∷ []; frames = past.frames ++ more; sent = past.sent }) new
+
+-- by this piece a frame of a client that goes on became whole: less is left unread than was unread and came
+abbrev pub BringsFrame : ClientOf → Piece → ClientOf → Type 0
+BringsFrame old None new = ⊥
+BringsFrame old (Some bytes) new =
+    (new.ending ≡ None) × (length new.stream.unread < length (old.stream.unread ++ bytes))
+
+-- and it was the piece of the client at this place
+abbrev pub BringsFrameAt : ℕ → List ClientOf → Piece → List ClientOf → Type 0
+BringsFrameAt place old piece new = (before : ClientOf) × (after : ClientOf) × (slice_get old place ≡ Some before)
+    × (slice_get new place ≡ Some after) × BringsFrame before piece after
+
+-- what came of a client begins with these frames
+abbrev pub BeginsWithFrames : List Piece → List wire.Frame → Type 0
+BeginsWithFrames pieces frames = (rest : List ℕ) × (bytes_of pieces ≡ flat_map spelling frames ++ rest)
+
+-- this piece of a client was taken as far as memory was there: whatever was asked before, and whatever is
+-- past of the client, the log is that of the asks of its frames too
+abbrev pub StopsHearing : Rows → List (Key × Call) → ClientOf → Piece → List (Key × Call) → Type 0
+StopsHearing opening old_log old piece new_log =
+    (asks : List (Key × Call)) (past : PastOf) → old_log ≡ first_asks asks → IsServing opening asks old_log past old
+    → (more : List wire.Frame) × All IsFromClient more × (new_log ≡ first_asks (asks ++ asks_in more))
+    × BeginsWithFrames (past.pieces ++ piece ∷ []) (past.frames ++ more)
+
+-- and so were arrivals, of all clients
+abbrev pub StopsTaking : (List (Key × Call) → List (Key × Call) → PastOf → ClientOf → Type 0)
+    → List (Key × Call) → List ClientOf → List (ℕ × Piece) → List (Key × Call) → Type 0
+StopsTaking Served old_log old arrivals new_log =
+    (asks : List (Key × Call)) (past : ℕ → PastOf) → AreServed Served asks past old_log old
+    → (taken : List (ℕ × wire.Frame)) × All (λ t. IsFromClient t.1) taken
+    × (new_log ≡ first_asks (asks ++ asks_of_all taken))
+    × ((i : ℕ) → IfSome (slice_get old i) (λ client. BeginsWithFrames
+    ((past i).pieces ++ pieces_of_client i arrivals) ((past i).frames ++ frames_of_client i taken)))
 
 -- a client is told what is due: whatever was asked, and whatever is past of it, it stays served
 abbrev pub TellsClient : Rows → List (Key × Call) → ClientOf → ClientOf → Type 0

@@ -1,55 +1,33 @@
--- The session of a client who is served alone, read after read.
-use Rattle.std.specs.Prelude.{◌≡◌, ℕ, Option, List, [], ◌++◌}
-use Rattle.std.specs.Io.KnownBytes.{Appends}
-use Rattle.std.specs.List.{flat_map}
+-- The session of a client who is served alone, piece after piece.
+use Rattle.std.specs.Prelude.{◌≡◌, ℕ, Option, Some, List, [], ◌∷◌, ◌++◌}
+use Rattle.std.specs.Io.KnownBytes.{Appends, Consumes, IsAtEnd}
+use Rattle.std.specs.List.{Contains}
 use Rattle.sb_rows.specs.Rows.{Rows}
 use Rattle.sb_calls.specs.declared.ask.Key.{Key}
 use Rattle.sb_calls.specs.declared.call.Call.{Call}
-use Rattle.sb_frames.specs.Grammar.{spelling}
-use Rattle.sb_frames.specs.declared.frame.Frame as frames
+use Rattle.sb_frames.specs.declared.frame.Frame as wire
+use Rattle.sb_sequencer.specs.Numbering.{first_asks}
+use Rattle.bank_server.specs.Clients.{ClientOf, PastOf, Piece, bytes_of}
 use Rattle.bank_server.specs.Session.{asks_in}
-use Rattle.bank_server.specs.SessionResults.{ServesUntilFault}
-use Rattle.bank_server.specs.declared.session.inbox.Inbox.{Inbox}
-use Rattle.bank_server.specs.declared.session.session_fault.SessionFault.{SessionFault}
-use Rattle.bank_server.specs.inner.ClientSteps.{ClientState, ReachesClient, inbox_state}
+use Rattle.bank_server.specs.inner.ClientTurns.{IsServing}
 
--- the client, who leaves no outcome unread, and what the writer has
-pub record SessionState : Type 0 where
-  pub client : ClientState
-  pub written : Option (List ℕ)
+-- a piece of a client is taken, and what it is told is written: whatever was asked before, and whatever is
+-- past of the client, it stays served
+abbrev pub ServesPiece : Rows → List (Key × Call) → ClientOf → Option (List ℕ) → Piece → List (Key × Call) → ClientOf
+    → Option (List ℕ) → Type 0
+ServesPiece opening old_log old old_written piece new_log new new_written =
+    (asks : List (Key × Call)) (past : PastOf) (start : Option (List ℕ)) → old_log ≡ first_asks asks
+    → IsServing opening asks old_log past old → Appends start old_written past.sent
+    → (more : List wire.Frame) × (sent : List ℕ) × IsServing opening (asks ++ asks_in more) new_log
+    (record { pieces = past.pieces ++ piece ∷ []; frames = past.frames ++ more; sent = sent }) new
+    × Appends start new_written sent
 
-abbrev pub session_state : List (Key × Call) → Inbox → Option (List ℕ) → SessionState
-session_state log inbox written = record { client = inbox_state log inbox []; written = written }
-
--- these frames led the client there, in the log of these asks, and what it was sent was written
-pub record ReachesSession (opening : Rows) (asks : List (Key × Call)) (start : Option (List ℕ))
-    (frames : List frames.Frame) (at : SessionState) : Type 0 where
-  pub sent : List ℕ
-  pub reached : ReachesClient opening asks sent frames at.client
-  pub written : Appends start at.written sent
-
--- what is due is written: whatever led to the old state led to the new one
-abbrev pub WritesDue : Rows → SessionState → SessionState → Type 0
-WritesDue opening old new = (asks : List (Key × Call)) (start : Option (List ℕ)) (frames : List frames.Frame)
-    → ReachesSession opening asks start frames old → ReachesSession opening asks start frames new
-
--- the client's bytes so far were frames that led there, and then what is unread; all asks are those
--- before the session and its own
-pub record HearsSession (opening : Rows) (before : List (Key × Call)) (start : Option (List ℕ)) (bytes : List ℕ)
-    (at : SessionState) (unread : List ℕ) : Type 0 where
-  pub frames : List frames.Frame
-  pub bytes_are : bytes ≡ flat_map spelling frames ++ unread
-  pub reached : ReachesSession opening (before ++ asks_in frames) start frames at
-
--- whatever was heard before, the session goes on with these bytes
-abbrev pub LeadsSession : Rows → SessionState → List ℕ → List ℕ → SessionState → List ℕ → Type 0
-LeadsSession opening old unread bytes new left =
-    (before : List (Key × Call)) (start : Option (List ℕ)) (heard : List ℕ)
-    → HearsSession opening before start heard old unread → HearsSession opening before start (heard ++ bytes) new left
-
--- whatever was heard before, and whatever comes behind, a fault ends the session at these bytes
-abbrev pub StopsSession : Rows → SessionState → List ℕ → List ℕ → SessionFault → SessionState → Type 0
-StopsSession opening old unread bytes fault new =
-    (before : List (Key × Call)) (start : Option (List ℕ)) (heard behind : List ℕ)
-    → HearsSession opening before start heard old unread
-    → ServesUntilFault opening before new.client.log start new.written ((heard ++ bytes) ++ behind) fault
+-- the client of a session is served: all asks are those before it and its own, what it was sent was written,
+-- and what was read came from it, to the last byte if its end came
+pub record IsInSession (opening : Rows) (before : List (Key × Call)) (given left start written : Option (List ℕ))
+    (log : List (Key × Call)) (client : ClientOf) : Type 0 where
+  pub past : PastOf
+  pub serving : IsServing opening (before ++ asks_in past.frames) log past client
+  pub output : Appends start written past.sent
+  pub read : Consumes given left (bytes_of past.pieces)
+  pub over : Contains past.pieces (Some []) → IsAtEnd left

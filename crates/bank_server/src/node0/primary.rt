@@ -8,7 +8,7 @@ ghost use Rattle.sb_checkpoint.specs.Stores.{StoreDoes};
 ghost use Rattle.sb_replica.specs.Replica.{replica_at_opening};
 ghost use Rattle.sb_sequencer.specs.Numbering.{IsLog, calls_of, first_asks};
 ghost use Rattle.sb_sequencer.specs.Sequencer.{empty_sequencer};
-ghost use Rattle.sb_ask_log.specs.Keeping.{KeepsBeginning};
+ghost use Rattle.sb_ask_log.specs.Keeping.{IsKeepFault, KeepsBeginning};
 ghost use Rattle.bank_server.specs.AskCounts.{no_asks};
 ghost use Rattle.bank_server.specs.inner.AskSteps.{AddsAsk};
 ghost use Rattle.bank_server.specs.inner.CountedAsks.{counts_by};
@@ -19,7 +19,7 @@ ghost use Rattle.bank_server.specs.Primary.{HasWholeLog, IsPrimary, PreservesBan
 ghost use Rattle.bank_server.specs.inner.NumberedAsks.{NumbersAsks};
 ghost use Rattle.bank_server.specs.Saving.{StoresCheckpoint, IsSaveFaultOf, Saves};
 ghost use Rattle.bank_server.specs.ServesOn.{ServesOn};
-ghost use Rattle.bank_server.specs.SessionFaults.{IsLogFault, IsSettleFault};
+ghost use Rattle.bank_server.specs.SessionFaults.{as_session, session_of_crew_fault};
 ghost use Rattle.bank_server.specs.Standing.{IsStandingWithin};
 
 use super::ask_counts::AskCounts;
@@ -27,12 +27,12 @@ use super::execution::{execute_calls, execute_unfinished, submit_op};
 use super::save_fault::SaveFault;
 use crate::followers::Followers;
 use crate::input::{Standing, standing_of};
-use crate::session::SessionFault;
 use cown_board::Runs;
 use cown_workers::{Crew, CrewFault};
 use sb_ask_log::{Keeper, NoKeeper};
 use sb_calls::{Call, Key, LOG_CALLS, resolve};
 use sb_checkpoint::CheckpointStore;
+use sb_log::LogFault;
 use sb_replica::Replica;
 use sb_rows::{Columns, Directory, Opening};
 use sb_sequencer::Sequencer;
@@ -198,13 +198,12 @@ impl<S: CheckpointStore, K: Keeper> Primary<S, K> {
     /// Offers node 0 the entries of the log that it lacks.
     ///
     /// Fails as [`Primary::settle`] does.
-    pub(crate) fn offer_rest<C: Crew>(&mut self, crew: &mut C) -> Result<(), SessionFault>
+    pub(crate) fn offer_rest<C: Crew>(&mut self, crew: &mut C) -> Result<(), CrewFault>
         ensures offered { OnOk result (self.new.node.board.log ≡ log_ops self.new.node.names self.new.log) }
         ensures unchanged { self.new ≡ record self.old { node = self.new.node } }
         ensures one_each { IsLog self.new.log }
         // The bank goes on, after a fault too.
-        ensures serves { ServesOn K.model C.keeps result self.old self.new }
-        ensures fault { IfErr result IsSettleFault }
+        ensures serves { ServesOn K.model C.keeps (as_session session_of_crew_fault result) self.old self.new }
     {
         for number in self.node.length() + 1..self.log.length() + 1 {
             let call = self.log.call(number).unwrap();
@@ -217,36 +216,35 @@ impl<S: CheckpointStore, K: Keeper> Primary<S, K> {
     /// Has node 0 execute the whole log.
     ///
     /// Fails with
-    /// - [`SessionFault::CrewGone`] if the crew leaves something unfinished, which one that keeps
-    ///   no job never does if none was out,
-    /// - [`SessionFault::OutOfMemory`] if memory is refused.
+    /// - [`CrewFault::CrewGone`] if the crew leaves something unfinished, which one that keeps no job
+    ///   never does if none was out,
+    /// - [`CrewFault::OutOfMemory`] if memory is refused.
     ///
     /// The log stays, and node 0 may have executed more of it then.
-    pub fn settle<C: Crew>(&mut self, crew: &mut C) -> Result<(), SessionFault>
+    pub fn settle<C: Crew>(&mut self, crew: &mut C) -> Result<(), CrewFault>
         ensures whole_log { OnOk result (HasWholeLog self.new) }
         ensures unchanged { self.new ≡ record self.old { node = self.new.node } }
         // It has one number for each key.
         ensures one_each { IsLog self.new.log }
         // What was kept stays kept, node 0 was touched by its turns alone, and a crew that keeps no job
         // leaves none out, after a fault too.
-        ensures serves { ServesOn K.model C.keeps result self.old self.new }
-        ensures fault { IfErr result IsSettleFault }
+        ensures serves { ServesOn K.model C.keeps (as_session session_of_crew_fault result) self.old self.new }
     {
         self.offer_rest(crew)?;
-        Ok(execute_unfinished(&mut self.node, crew)?)
+        execute_unfinished(&mut self.node, crew)
     }
 
     /// Has the whole log kept.
     ///
-    /// Fails with [`SessionFault::Log`] if the keeper fails.
-    pub fn keep(&mut self) -> Result<(), SessionFault>
+    /// Fails as the keeper does ([`Keeper::keep`]).
+    pub fn keep(&mut self) -> Result<(), LogFault>
         ensures kept { OnOk result (K.model.Keeps self.new.keeper self.new.log) }
         ensures unchanged { self.new ≡ record self.old { keeper = self.new.keeper } }
         // What was kept stays kept, after a fault too.
         ensures bank { PreservesBank K.model self.old self.new }
-        ensures fault { IfErr result (IsLogFault K.model.fails (K.model.has_failed self.new.keeper)) }
+        ensures fault { IfErr result (IsKeepFault K.model.fails (K.model.has_failed self.new.keeper)) }
     {
-        Ok(self.keeper.keep(&self.log)?)
+        self.keeper.keep(&self.log)
     }
 
     /// Has node 0 execute the whole log, of which it has nothing yet, together with its followers,

@@ -32,4 +32,11 @@ pub trait Arrivals {
         ensures none { IfNone result ((coming self.new ≡ coming self.old)
             × IfSome (here self.old) (λ count. count ≡ 0)) }
         ensures outgoing { outgoing self.new ≡ outgoing self.old };
+
+    /// A whole frame has come from this client: where clients may be silent for some time, its time begins anew.
+    fn heard(&mut self, _client: usize)
+        ensures coming { coming self.new ≡ coming self.old }
+        ensures here { here self.new ≡ here self.old }
+        ensures outgoing { outgoing self.new ≡ outgoing self.old }
+    {}
 }

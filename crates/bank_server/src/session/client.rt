@@ -1,16 +1,16 @@
-//! A client who is served beside others.
-ghost use Rattle.std.specs.Prelude.{◌≡◌, ◌≢◌, ◌⊎◌, ◌≤◌, ◌<◌, length, drop, None, Some, Err, false, true, is_some, IfOk, IfSome, OnErr, OnOk};
+//! A client who is served, beside others or alone.
+ghost use Rattle.std.specs.Prelude.{◌≡◌, ◌≢◌, ◌⊎◌, ◌↔◌, ◌≤◌, ◌<◌, length, drop, None, Some, Err, false, true, is_some, IfOk, IfSome, IsTrue, OnErr, OnOk};
 ghost use Rattle.bank_server.specs.AskCounts.{counts_since};
 ghost use Rattle.bank_server.specs.Clients.{IsSound, fresh_client, piece_of};
-ghost use Rattle.bank_server.specs.inner.ClientTurns.{HearsClient, TellsClient, ending_at_failure, ending_of};
+ghost use Rattle.bank_server.specs.inner.ClientTurns.{BringsFrame, HearsClient, StopsHearing, TellsClient, ending_at_failure, ending_of};
 ghost use Rattle.bank_server.specs.inner.CountedAsks.{AddsCounts};
 ghost use Rattle.bank_server.specs.Primary.{HasWholeLog, opening_rows_of};
 ghost use Rattle.bank_server.specs.inner.NumberedAsks.{NumbersAsks};
 ghost use Rattle.bank_server.specs.declared.session.session_fault.SessionFault.TheVariants as faults;
 
-use super::inbox::{Inbox, take_bytes};
+use super::client_limits::ClientLimits;
+use super::inbox::{Inbox, forget_front, take_bytes};
 use super::session_fault::SessionFault;
-use super::{ASKS_BEFORE_FLUSH, UNREAD_BYTES};
 use crate::node0::{AskCounts, Primary};
 use sb_ask_log::Keeper;
 use sb_checkpoint::CheckpointStore;
@@ -27,6 +27,8 @@ pub(crate) struct Client {
     outcomes: Vec<u8>,
     // How many asks it had.
     counts: AskCounts,
+    // What bounds it.
+    limits: ClientLimits,
     // How it ended.
     ending: Option<Result<(), SessionFault>>,
     // Whether its connection failed, be it after its end.
@@ -39,18 +41,19 @@ impl Model for Client {
 
     ghost Value = { ClientOf };
 
-    ghost view = { λ c. client_of c.inbox c.outcomes.items c.counts c.ending c.broken };
+    ghost view = { λ c. client_of c.inbox c.outcomes.items c.counts c.limits c.ending c.broken };
 }
 
 impl Client {
-    /// A client before its first byte.
-    pub(crate) fn new(alloc: Global) -> Client
-        ensures { result ≡ fresh_client }
+    /// A client before its first byte, within these limits.
+    pub(crate) fn new(alloc: Global, limits: ClientLimits) -> Client
+        ensures { result ≡ fresh_client limits }
     {
         Client {
             inbox: Inbox::new(alloc),
             outcomes: Vec::new(alloc),
             counts: AskCounts::new(),
+            limits,
             ending: None,
             broken: false,
         }
@@ -84,11 +87,12 @@ impl Client {
         self.broken
     }
 
-    /// Whether something is due to it.
-    pub(crate) fn has_due(&self) -> bool
-        ensures { result ≡ false → self.now.due ≡ 0 }
+    /// Whether it is to be told something, or ended just now, if this says whether it had ended before.
+    pub(crate) fn is_stirred(&self, had_ended: bool) -> bool
+        ensures none_due { result ≡ false → self.now.due ≡ 0 }
+        ensures still { result ≡ false → is_some self.now.ending ≡ had_ended }
     {
-        self.inbox.due > 0
+        self.inbox.due > 0 || self.ending.is_some() != had_ended
     }
 
     /// Whether it has ended.
@@ -103,13 +107,13 @@ impl Client {
         requires { count ≤ length self.old.outcomes }
         ensures { self.new ≡ record self.old { outcomes = drop count self.old.outcomes } }
     {
-        self.outcomes.drain(..count);
+        forget_front(&mut self.outcomes, count);
     }
 }
 
 /// Takes a piece of what comes from a client: its bytes at the front of a chunk, its end, or that
 /// its connection failed. At a fault of its own it ends; nobody else notices. Of a client that has
-/// ended nothing is taken but this failure.
+/// ended nothing is taken but this failure. Answers whether it goes on and a frame became whole.
 ///
 /// Fails if memory is refused.
 pub(crate) fn hear<S: CheckpointStore, K: Keeper>(
@@ -117,16 +121,22 @@ pub(crate) fn hear<S: CheckpointStore, K: Keeper>(
     read: Option<usize>,
     client: &mut Client,
     primary: &mut Primary<S, K>,
-) -> Result<(), AllocError>
+) -> Result<bool, AllocError>
     requires count { IfSome read (λ count. count ≤ length chunk.now) }
     requires sound { IsSound (length primary.old.log) client.old }
     ensures sound { OnOk result (IsSound (length primary.new.log) client.new) }
     ensures heard { OnOk result (HearsClient (opening_rows_of primary.old) primary.old.log client.old
         (piece_of chunk.now read) primary.new.log client.new) }
+    // If memory is refused the log is that of frames that came.
+    ensures stopped { OnErr result (StopsHearing (opening_rows_of primary.old) primary.old.log client.old
+        (piece_of chunk.now read) primary.new.log) }
+    ensures limits { client.new.limits ≡ client.old.limits }
     ensures outcomes { client.new.outcomes ≡ client.old.outcomes }
     // Its asks are counted, as the bank counts them.
     ensures counted { AddsCounts client.old.counts (counts_since primary.new.counts primary.old.counts)
         client.new.counts }
+    ensures whole { IfOk result (λ has_frame. IsTrue has_frame
+        ↔ BringsFrame client.old (piece_of chunk.now read) client.new) }
     // One that has ended stays as it ended.
     ensures over { is_some client.old.ending ≡ true → client.new.ending ≡ client.old.ending }
     ensures numbered { NumbersAsks K.model primary.old primary.new }
@@ -134,12 +144,12 @@ pub(crate) fn hear<S: CheckpointStore, K: Keeper>(
     match read {
         None => {
             hear_failure(client);
-            Ok(())
+            Ok(false)
         }
-        Some(_) if client.has_ended() => Ok(()),
+        Some(_) if client.has_ended() => Ok(false),
         Some(0) => {
             hear_end(client);
-            Ok(())
+            Ok(false)
         }
         Some(count) => hear_bytes(&chunk[..count], client, primary),
     }
@@ -166,31 +176,36 @@ fn hear_end(client: &mut Client)
     client.ending = Some(ending);
 }
 
-// Takes bytes of a client.
+// Takes bytes of a client, and answers whether it goes on and a frame became whole.
 fn hear_bytes<S: CheckpointStore, K: Keeper>(
     bytes: &[u8],
     client: &mut Client,
     primary: &mut Primary<S, K>,
-) -> Result<(), AllocError>
+) -> Result<bool, AllocError>
     requires some { 0 < length bytes.now }
     requires on { client.old.ending ≡ None }
     requires sound { IsSound (length primary.old.log) client.old }
     ensures sound { OnOk result (IsSound (length primary.new.log) client.new) }
     ensures heard { OnOk result (HearsClient (opening_rows_of primary.old) primary.old.log client.old
         (Some bytes.now) primary.new.log client.new) }
+    // If memory is refused the log is that of frames that came.
+    ensures stopped { OnErr result (StopsHearing (opening_rows_of primary.old) primary.old.log client.old
+        (Some bytes.now) primary.new.log) }
+    ensures limits { client.new.limits ≡ client.old.limits }
     ensures outcomes { client.new.outcomes ≡ client.old.outcomes }
     ensures counted { AddsCounts client.old.counts (counts_since primary.new.counts primary.old.counts)
         client.new.counts }
+    ensures whole { IfOk result (λ has_frame. IsTrue has_frame ↔ BringsFrame client.old (Some bytes.now) client.new) }
     ensures numbered { NumbersAsks K.model primary.old primary.new }
 {
     let before = primary.counts();
-    let taken = take_bytes(bytes, ASKS_BEFORE_FLUSH, &mut client.inbox, primary);
+    let taken = take_bytes(bytes, client.limits.asks, &mut client.inbox, primary);
     client.counts.add(&primary.counts().since(&before));
     match taken {
-        Ok(()) => Ok(()),
+        Ok(has_frame) => Ok(has_frame),
         Err(fault) => {
             client.ending = Some(Err(own_fault(fault)?));
-            Ok(())
+            Ok(false)
         }
     }
 }
@@ -220,23 +235,26 @@ pub(crate) fn tell_client<S: CheckpointStore, K: Keeper>(
     ensures sound { OnOk result (IsSound (length primary.now.log) client.new) }
     ensures none_due { OnOk result (client.new.due ≡ 0) }
     ensures counts { client.new.counts ≡ client.old.counts }
+    ensures limits { client.new.limits ≡ client.old.limits }
     ensures told { OnOk result (TellsClient (opening_rows_of primary.now) primary.now.log client.old client.new) }
 {
     client.inbox.push_due(primary, &mut client.outcomes)?;
-    client.ending = ending_by(client.ending, client.outcomes.len());
+    client.ending = ending_by(client.ending, client.outcomes.len(), client.limits.unread);
     Ok(())
 }
 
-// How a client ends that leaves this many bytes unread, and ended so or goes on.
+// How a client ends that leaves this many bytes unread, where so many may be, and ended so or goes
+// on.
 fn ending_by(
     ending: Option<Result<(), SessionFault>>,
     unread: usize,
+    most: usize,
 ) -> Option<Result<(), SessionFault>>
     ensures ends { (result ≡ ending)
-        ⊎ ((ending ≡ None) × (result ≡ Some (Err faults.Device)) × (UNREAD_BYTES < unread)) }
-    ensures few { result ≡ None → unread ≤ UNREAD_BYTES }
+        ⊎ ((ending ≡ None) × (result ≡ Some (Err faults.Device)) × (most < unread)) }
+    ensures few { result ≡ None → unread ≤ most }
 {
-    if ending.is_none() && unread > UNREAD_BYTES {
+    if ending.is_none() && unread > most {
         return Some(Err(SessionFault::Device));
     }
     ending

@@ -1,20 +1,22 @@
 //! Clients who are served at once.
 ghost use Rattle.std.specs.Prelude.{◌≡◌, ◌⊎◌, ◌≤◌, ◌<◌, ◌∷◌, ◌++◌, ◌↔◌, [], drop, length, take, IfErr, IfOk, IfSome, IsTrue, OnErr, OnOk, slice_get, slice_set};
 ghost use Rattle.std.specs.List.{All};
-ghost use Rattle.bank_server.specs.Clients.{AreCalmBut, IsReady, IsServed, StaysReady, StaysServed, ServesTurn, TurnLeaves, fresh_client, no_past, past_with, sends};
-ghost use Rattle.bank_server.specs.Primary.{opening_rows_of};
+ghost use Rattle.bank_server.specs.Clients.{AreCalmBut, AreUntold, IsReady, IsServed, IsSound, StaysReady, StaysServed, ServesTurn, StopsTurn, TurnLeaves, fresh_client, no_past, past_with, sends};
+ghost use Rattle.bank_server.specs.Primary.{HasWholeLog, opening_rows_of};
 ghost use Rattle.bank_server.specs.ServesOn.{ServesOn};
-ghost use Rattle.bank_server.specs.SessionFaults.{IsSettleFault, IsTurnFault};
+ghost use Rattle.bank_server.specs.SessionFaults.{IsCrewFault, IsLogFault, as_session, session_of_crew_fault, session_of_turn_fault};
+ghost use Rattle.bank_server.specs.inner.ClientTurns.{IsServing};
 
 use super::READ_BYTES;
 use super::arrivals::Arrivals;
 use super::client::Client;
+use super::client_limits::ClientLimits;
 use super::places::{add_client, take_sent, vacate_place};
 use super::session_fault::SessionFault;
-use super::telling::settle_and_keep;
+use super::turn_fault::TurnFault;
 use super::turns::{take_arrivals, tell_all};
 use crate::node0::{AskCounts, Primary};
-use cown_workers::Crew;
+use cown_workers::{Crew, CrewFault};
 use sb_ask_log::Keeper;
 use sb_checkpoint::CheckpointStore;
 use std::alloc::{AllocError, Global};
@@ -25,6 +27,7 @@ use std::marker::Model;
 #[derive(Drop)]
 pub struct Clients {
     alloc: Global,
+    limits: ClientLimits,
     all: Vec<Client>,
     // Those whom the last turn told something, or who ended in it.
     stirred: Vec<usize>,
@@ -37,14 +40,15 @@ impl Model for Clients {
 
     ghost Value = { ClientsOf };
 
-    ghost view = { λ c. record { all = c.all.items; stirred = c.stirred.items } };
+    ghost view = { λ c. record { limits = c.limits; all = c.all.items; stirred = c.stirred.items } };
 }
 
 impl Clients {
-    /// No clients.
+    /// No clients, each of which will have these limits.
     ///
     /// Fails if memory is refused.
-    pub fn new(alloc: Global) -> Result<Clients, AllocError>
+    pub fn new(alloc: Global, limits: ClientLimits) -> Result<Clients, AllocError>
+        ensures limits { IfOk result (λ clients. clients.limits ≡ limits) }
         ensures all { IfOk result (λ clients. clients.all ≡ []) }
         ensures stirred { IfOk result (λ clients. clients.stirred ≡ []) }
     {
@@ -52,6 +56,7 @@ impl Clients {
         chunk.resize(READ_BYTES, 0)?;
         Ok(Clients {
             alloc,
+            limits,
             all: Vec::new(alloc),
             stirred: Vec::new(alloc),
             chunk,
@@ -77,24 +82,26 @@ impl Clients {
     /// Fails if memory is refused; nothing changes then.
     pub fn join(&mut self) -> Result<usize, AllocError>
         ensures place { IfOk result (λ place. place ≡ length self.old.all) }
-        ensures joined { OnOk result (self.new ≡ record self.old { all = self.old.all ++ fresh_client ∷ [] }) }
+        ensures joined { OnOk result (self.new
+            ≡ record self.old { all = self.old.all ++ fresh_client self.old.limits ∷ [] }) }
         ensures ready { OnOk result (StaysReady self.old.all self.new.all) }
         // It has no past.
         ensures served { OnOk result (StaysServed (past_with (length self.old.all) no_past) self.old.all self.new.all) }
         ensures err { OnErr result (self.new ≡ self.old) }
     {
-        add_client(self.alloc, &mut self.all)
+        add_client(self.alloc, self.limits, &mut self.all)
     }
 
     /// The client at a place has left, and the place is as one that nothing came from.
     pub fn vacate(&mut self, place: usize)
         requires { place < length self.old.all }
-        ensures vacated { self.new ≡ record self.old { all = slice_set self.old.all place fresh_client } }
+        ensures vacated { self.new
+            ≡ record self.old { all = slice_set self.old.all place (fresh_client self.old.limits) } }
         ensures ready { StaysReady self.old.all self.new.all }
         // It has no past.
         ensures served { StaysServed (past_with place no_past) self.old.all self.new.all }
     {
-        vacate_place(self.alloc, &mut self.all, place);
+        vacate_place(self.alloc, self.limits, &mut self.all, place);
     }
 
     /// The places of those whom the last turn told something, or who ended in it.
@@ -158,49 +165,47 @@ impl Clients {
     /// follows. A client at fault ends; nobody else notices.
     ///
     /// Fails with
-    /// - [`SessionFault::CrewGone`] if the crew leaves something unfinished,
-    /// - [`SessionFault::OutOfMemory`] if memory is refused,
-    /// - [`SessionFault::Log`] if the log can't be kept, in place of any other fault.
+    /// - [`TurnFault::Crew`] if the crew leaves something unfinished, or memory is refused,
+    /// - [`TurnFault::Log`] if the log can't be kept, in place of any other fault. Nobody was given
+    ///   anything then.
     pub fn turn<A: Arrivals, S: CheckpointStore, K: Keeper, C: Crew>(
         &mut self,
         arrivals: &mut A,
         primary: &mut Primary<S, K>,
         crew: &mut C,
-    ) -> Result<(), SessionFault>
+    ) -> Result<(), TurnFault>
         requires ready { All (λ client. IsReady (length primary.old.log) client) self.old.all }
         ensures ready { OnOk result (All (λ client. IsReady (length primary.new.log) client) self.new.all) }
         // What has come is taken, at most a piece for each place. The log is that of all asks taken, and
         // each client was given exactly the outcomes of its own.
         ensures served { OnOk result (ServesTurn (IsServed (opening_rows_of primary.old)) (A.coming arrivals.old)
             (A.coming arrivals.new) (A.here arrivals.old) primary.old.log self.old.all primary.new.log self.new.all) }
-        // The whole log is kept, unless nobody was told anything and nobody ended.
+        // The whole log is kept, unless nobody was told anything and nobody ended. If it can't be kept
+        // nobody was told anything.
         ensures leaves { TurnLeaves result (A.outgoing arrivals.old) (A.outgoing arrivals.new)
             (K.model.Keeps primary.new.keeper primary.new.log) self.old.all self.new }
         // What was kept stays kept, and a crew that keeps no job leaves none out, after a fault too.
-        ensures serves { ServesOn K.model C.keeps result primary.old primary.new }
+        ensures serves { ServesOn K.model C.keeps (as_session session_of_turn_fault result) primary.old primary.new }
+        // After a fault the log is that of asks that came.
+        ensures stopped { OnErr result (StopsTurn (opening_rows_of primary.old) (A.coming arrivals.old)
+            (A.coming arrivals.new) primary.old.log self.old.all primary.new.log) }
         // After a fault that isn't the log's the whole log is kept.
-        ensures fault { IfErr result (λ fault. IsTurnFault fault
-            × (IsSettleFault fault → K.model.Keeps primary.new.keeper primary.new.log)) }
+        ensures kept_after_fault { IfErr result (λ fault. IsCrewFault fault
+            → K.model.Keeps primary.new.keeper primary.new.log) }
     {
         self.stirred.clear();
-        let served = serve_turn(
+        serve_turn(
             arrivals,
             &mut self.chunk,
             &mut self.all,
             &mut self.stirred,
             primary,
             crew,
-        );
-        if let Err(fault) = served {
-            // What was numbered is kept, whatever ended the turn.
-            primary.keep()?;
-            return Err(fault);
-        }
-        Ok(())
+        )
     }
 }
 
-// Takes what has come, and tells the clients what is due.
+// Takes what has come, has the log kept, and only then tells the clients what is due.
 fn serve_turn<A: Arrivals, S: CheckpointStore, K: Keeper, C: Crew>(
     arrivals: &mut A,
     chunk: &mut [u8],
@@ -208,7 +213,7 @@ fn serve_turn<A: Arrivals, S: CheckpointStore, K: Keeper, C: Crew>(
     stirred: &mut Vec<usize>,
     primary: &mut Primary<S, K>,
     crew: &mut C,
-) -> Result<(), SessionFault>
+) -> Result<(), TurnFault>
     requires none { stirred.old.items ≡ [] }
     requires ready { All (λ client. IsReady (length primary.old.log) client) clients.old }
     ensures ready { OnOk result (All (λ client. IsReady (length primary.new.log) client) clients.new) }
@@ -218,15 +223,53 @@ fn serve_turn<A: Arrivals, S: CheckpointStore, K: Keeper, C: Crew>(
     ensures as_many { length clients.new ≡ length clients.old }
     ensures kept { OnOk result (K.model.Keeps primary.new.keeper primary.new.log ⊎ (stirred.new.items ≡ [])) }
     ensures calm { OnOk result (AreCalmBut stirred.new.items clients.old clients.new) }
+    ensures untold { IfErr result (λ fault. IsLogFault fault → AreUntold clients.old clients.new) }
     // The bank goes on, after a fault too.
-    ensures serves { ServesOn K.model C.keeps result primary.old primary.new }
-    ensures fault { IfErr result IsTurnFault }
+    ensures serves { ServesOn K.model C.keeps (as_session session_of_turn_fault result) primary.old primary.new }
+    ensures stopped { OnErr result (StopsTurn (opening_rows_of primary.old) (A.coming arrivals.old)
+        (A.coming arrivals.new) primary.old.log clients.old primary.new.log) }
+    ensures kept_after_fault { IfErr result (λ fault. IsCrewFault fault
+        → K.model.Keeps primary.new.keeper primary.new.log) }
+{
+    let taken = take_turn(arrivals, chunk, clients, stirred, primary, crew);
+    if taken.is_ok() && stirred.is_empty() {
+        return Ok(());
+    }
+    // What was numbered is kept, whatever ended the turn, and before anyone is told anything.
+    primary.keep()?;
+    taken?;
+    tell_all(stirred, clients, primary)?;
+    Ok(())
+}
+
+// Takes what has come, and has node 0 execute the whole log if someone is to be told something.
+fn take_turn<A: Arrivals, S: CheckpointStore, K: Keeper, C: Crew>(
+    arrivals: &mut A,
+    chunk: &mut [u8],
+    clients: &mut [Client],
+    stirred: &mut Vec<usize>,
+    primary: &mut Primary<S, K>,
+    crew: &mut C,
+) -> Result<(), CrewFault>
+    requires none { stirred.old.items ≡ [] }
+    requires ready { All (λ client. IsReady (length primary.old.log) client) clients.old }
+    ensures sound { OnOk result (All (λ client. IsSound (length primary.new.log) client) clients.new) }
+    ensures taken { OnOk result (ServesTurn (IsServing (opening_rows_of primary.old)) (A.coming arrivals.old)
+        (A.coming arrivals.new) (A.here arrivals.old) primary.old.log clients.old primary.new.log clients.new) }
+    ensures outgoing { A.outgoing arrivals.new ≡ A.outgoing arrivals.old }
+    ensures as_many { length clients.new ≡ length clients.old }
+    ensures there { All (λ k. k < length clients.new) stirred.new.items }
+    ensures calm { OnOk result (AreCalmBut stirred.new.items clients.old clients.new) }
+    ensures untold { AreUntold clients.old clients.new }
+    ensures whole_log { OnOk result (HasWholeLog primary.new ⊎ (stirred.new.items ≡ [])) }
+    // The bank goes on, after a fault too.
+    ensures serves { ServesOn K.model C.keeps (as_session session_of_crew_fault result) primary.old primary.new }
+    ensures log { StopsTurn (opening_rows_of primary.old) (A.coming arrivals.old) (A.coming arrivals.new)
+        primary.old.log clients.old primary.new.log }
 {
     take_arrivals(arrivals, chunk, clients, stirred, primary)?;
     if stirred.is_empty() {
         return primary.offer_rest(crew);
     }
-    settle_and_keep(primary, crew)?;
-    tell_all(stirred, clients, primary)?;
-    Ok(())
+    primary.settle(crew)
 }

@@ -1,5 +1,5 @@
 //! What comes from a client, frame after frame.
-ghost use Rattle.std.specs.Prelude.{◌≡◌, ◌≤◌, ◌+◌, ◌++◌, ◌∷◌, [], ℕ, List, drop, length, false, IfErr, OnOk, OnErr};
+ghost use Rattle.std.specs.Prelude.{◌≡◌, ◌≤◌, ◌<◌, ◌↔◌, ◌+◌, ◌++◌, ◌∷◌, [], ℕ, List, drop, length, false, IfErr, IfOk, IsTrue, OnOk, OnErr};
 ghost use Rattle.sb_frames.specs.Streaming.{IsShort};
 ghost use Rattle.sb_frames.specs.Streaming as streaming;
 ghost use Rattle.sb_frames.specs.declared.frame.Frame.TheVariants as frames;
@@ -81,16 +81,21 @@ impl Inbox {
     }
 }
 
-// Forgets this many asks, the first ones.
-fn forget_front(pending: &mut Vec<PendingAsk>, count: usize)
-    requires { count ≤ length pending.old.items }
-    ensures { pending.new.items ≡ drop count pending.old.items }
+/// Forgets this many, the first ones. If these are all, nothing has to move.
+pub(crate) fn forget_front<T: Drop>(items: &mut Vec<T>, count: usize)
+    requires { count ≤ length items.old.items }
+    ensures { items.new.items ≡ drop count items.old.items }
 {
-    pending.drain(..count);
+    if count == items.len() {
+        items.clear();
+    } else {
+        items.drain(..count);
+    }
 }
 
 /// Takes bytes, and each frame that is whole by then: an ask is numbered, and waits; a flush makes
-/// the outcomes of all that wait due. At most `most` asks may wait for a flush.
+/// the outcomes of all that wait due. At most `most` asks may wait for a flush. Answers whether there was
+/// such a frame.
 ///
 /// Fails with
 /// - [`SessionFault::Frame`] if bytes come that no frame begins with,
@@ -102,7 +107,7 @@ pub(crate) fn take_bytes<S: CheckpointStore, K: Keeper>(
     most: usize,
     inbox: &mut Inbox,
     primary: &mut Primary<S, K>,
-) -> Result<(), SessionFault>
+) -> Result<bool, SessionFault>
     requires within { ArePendingWithin (length primary.old.log) inbox.old.pending.items }
     requires due { inbox.old.due ≤ length inbox.old.pending.items }
     requires few { length inbox.old.pending.items ≤ inbox.old.due + most }
@@ -114,6 +119,9 @@ pub(crate) fn take_bytes<S: CheckpointStore, K: Keeper>(
         (inbox_state primary.old.log inbox.old outcomes) (inbox.old.stream.unread ++ bytes.now)
         (inbox_state primary.new.log inbox.new outcomes) inbox.new.stream.unread) }
     ensures short { OnOk result (IsShort inbox.new.stream) }
+    // A whole frame was taken: less is left than there was.
+    ensures whole { IfOk result (λ has_frame. IsTrue has_frame
+        ↔ (length inbox.new.stream.unread < length (inbox.old.stream.unread ++ bytes.now))) }
     ensures stops { IfErr result (λ fault. (outcomes : List ℕ) → StopsClient (opening_rows_of primary.old) most
         (inbox_state primary.old.log inbox.old outcomes) (inbox.old.stream.unread ++ bytes.now) fault
         (inbox_state primary.new.log inbox.new outcomes)) }
@@ -126,13 +134,13 @@ pub(crate) fn take_bytes<S: CheckpointStore, K: Keeper>(
     take_frames(most, inbox, primary)
 }
 
-// Takes each frame that is whole.
+// Takes each frame that is whole, and answers whether there was one.
 #[tactic(auto, unfolding(sb_frames::specs::Grammar::spelling))]
 fn take_frames<S: CheckpointStore, K: Keeper>(
     most: usize,
     inbox: &mut Inbox,
     primary: &mut Primary<S, K>,
-) -> Result<(), SessionFault>
+) -> Result<bool, SessionFault>
     requires within { ArePendingWithin (length primary.old.log) inbox.old.pending.items }
     requires due { inbox.old.due ≤ length inbox.old.pending.items }
     requires few { length inbox.old.pending.items ≤ inbox.old.due + most }
@@ -144,19 +152,23 @@ fn take_frames<S: CheckpointStore, K: Keeper>(
         (inbox_state primary.old.log inbox.old outcomes) inbox.old.stream.unread
         (inbox_state primary.new.log inbox.new outcomes) inbox.new.stream.unread) }
     ensures short { OnOk result (IsShort inbox.new.stream) }
+    ensures whole { IfOk result (λ has_frame. IsTrue has_frame
+        ↔ (length inbox.new.stream.unread < length inbox.old.stream.unread)) }
     ensures stops { IfErr result (λ fault. (outcomes : List ℕ) → StopsClient (opening_rows_of primary.old) most
         (inbox_state primary.old.log inbox.old outcomes) inbox.old.stream.unread fault
         (inbox_state primary.new.log inbox.new outcomes)) }
     ensures numbered { NumbersAsks K.model primary.old primary.new }
 {
+    let mut has_frame = false;
     loop {
         match inbox.stream.next() {
             Ok(Some(frame)) => take_frame(&frame, most, inbox, primary)?,
-            Ok(None) => return Ok(()),
+            Ok(None) => return Ok(has_frame),
             Err(StreamFault::Bad(fault)) => return Err(SessionFault::Frame(fault)),
             // It hadn't failed, and takes no memory.
             Err(StreamFault::Failed | StreamFault::OutOfMemory) => unreachable!(),
         }
+        has_frame = true;
     }
 }
 

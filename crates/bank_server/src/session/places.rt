@@ -3,31 +3,36 @@ ghost use Rattle.std.specs.Prelude.{◌≡◌, ◌≤◌, ◌<◌, ◌∷◌, �
 ghost use Rattle.bank_server.specs.Clients.{StaysReady, StaysServed, fresh_client, no_past, past_with, sends};
 
 use super::client::Client;
+use super::client_limits::ClientLimits;
 use std::alloc::{AllocError, Global};
 
 /// A new place, behind the others.
 ///
 /// Fails if memory is refused; nothing changes then.
-pub(crate) fn add_client(alloc: Global, all: &mut Vec<Client>) -> Result<usize, AllocError>
+pub(crate) fn add_client(
+    alloc: Global,
+    limits: ClientLimits,
+    all: &mut Vec<Client>,
+) -> Result<usize, AllocError>
     ensures place { IfOk result (λ place. place ≡ length all.old.items) }
-    ensures joined { OnOk result (all.new.items ≡ all.old.items ++ fresh_client ∷ []) }
+    ensures joined { OnOk result (all.new.items ≡ all.old.items ++ fresh_client limits ∷ []) }
     ensures ready { OnOk result (StaysReady all.old.items all.new.items) }
     ensures served { OnOk result (StaysServed (past_with (length all.old.items) no_past) all.old.items all.new.items) }
     ensures err { OnErr result (all.new.items ≡ all.old.items) }
 {
     let place = all.len();
-    all.push(Client::new(alloc))?;
+    all.push(Client::new(alloc, limits))?;
     Ok(place)
 }
 
 /// The client at a place has left.
-pub(crate) fn vacate_place(alloc: Global, all: &mut [Client], place: usize)
+pub(crate) fn vacate_place(alloc: Global, limits: ClientLimits, all: &mut [Client], place: usize)
     requires { place < length all.old }
-    ensures vacated { all.new ≡ slice_set all.old place fresh_client }
+    ensures vacated { all.new ≡ slice_set all.old place (fresh_client limits) }
     ensures ready { StaysReady all.old all.new }
     ensures served { StaysServed (past_with place no_past) all.old all.new }
 {
-    all[place] = Client::new(alloc);
+    all[place] = Client::new(alloc, limits);
 }
 
 /// A client's connection takes this many bytes of its outcomes.

@@ -1,9 +1,9 @@
 //! Why a session ends before its client does.
 ghost use Rattle.std.specs.Prelude.{◌≡◌};
-ghost use Rattle.bank_server.specs.SessionFaults.{session_fault_number};
-ghost use Rattle.bank_server.specs.inner.FlushFaults.{session_of_crew_fault};
+ghost use Rattle.bank_server.specs.SessionFaults.{session_fault_number, session_of_crew_fault, session_of_turn_fault};
 ghost use Rattle.bank_server.specs.declared.session.session_fault.SessionFault.TheVariants.{OutOfMemory, Log};
 
+use super::turn_fault::TurnFault;
 use cown_workers::CrewFault;
 use sb_frames::FrameFault;
 use sb_log::LogFault;
@@ -34,10 +34,9 @@ pub enum SessionFault {
     /// kept.
     #[error("the log can't be kept: {0}")]
     Log(LogFault),
-    /// The client has [`crate::ASKS_OF_SESSION`] asks since its last flush, or
-    /// [`crate::ASKS_BEFORE_FLUSH`] if it is served beside others, and sent one more. That one has
-    /// no number; all asks before were numbered, and the outcomes of those that a flush followed
-    /// were sent.
+    /// The client has as many asks since its last flush as its [`ClientLimits`](crate::ClientLimits)
+    /// say, and sent one more. That one has no number; all asks before were numbered, and the outcomes
+    /// of those that a flush followed were sent.
     #[error("too many asks before a flush")]
     TooMany,
 }
@@ -66,6 +65,17 @@ impl From<CrewFault> for SessionFault {
         match crew {
             CrewFault::CrewGone => SessionFault::CrewGone,
             CrewFault::OutOfMemory => SessionFault::OutOfMemory,
+        }
+    }
+}
+
+impl From<TurnFault> for SessionFault {
+    ghost from_gives = { λ turn fault. fault ≡ session_of_turn_fault turn };
+
+    fn from(turn: TurnFault) -> SessionFault {
+        match turn {
+            TurnFault::Crew(crew) => SessionFault::from(crew),
+            TurnFault::Log(log) => SessionFault::Log(log),
         }
     }
 }

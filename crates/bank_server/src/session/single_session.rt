@@ -1,29 +1,28 @@
 //! A client's session.
-ghost use Rattle.std.specs.Prelude.{◌≡◌, ◌≤◌, ◌+◌, [], length, false, IfErr, IfSome, OnOk};
-ghost use Rattle.sb_frames.specs.Streaming.{IsShort};
-ghost use Rattle.bank_server.specs.Pending.{ArePendingWithin};
+ghost use Rattle.std.specs.Prelude.{◌≡◌, ◌≤◌, ◌<◌, ◌⊎◌, [], ◌∷◌, Some, length, IfErr, IfNone, IfSome, OnErr, OnOk};
+ghost use Rattle.std.specs.Io.KnownBytes.{Consumes, IsAtEnd};
+ghost use Rattle.bank_server.specs.Clients.{IsSound, bytes_of, piece_of};
 ghost use Rattle.bank_server.specs.Primary.{HasWholeLog, opening_rows_of};
-ghost use Rattle.bank_server.specs.inner.FlushFaults.{IsEndFault, IsFlushFault};
-ghost use Rattle.bank_server.specs.inner.SessionSteps.{LeadsSession, StopsSession, WritesDue, session_state};
+ghost use Rattle.bank_server.specs.inner.ClientTurns.{StopsHearing};
+ghost use Rattle.bank_server.specs.inner.FlushFaults.{IsFlushFault};
+ghost use Rattle.bank_server.specs.inner.SessionSteps.{ServesPiece};
 ghost use Rattle.bank_server.specs.ServesOn.{ServesOn};
 ghost use Rattle.bank_server.specs.SessionFaults.{IsClientFault};
 ghost use Rattle.bank_server.specs.SessionResults.{ServesSession, ServesUntilFault};
 
-use super::ASKS_OF_SESSION;
-use super::inbox::{Inbox, take_bytes};
+use super::READ_BYTES;
+use super::client::{Client, tell_client};
+use super::client_limits::ClientLimits;
 use super::session_fault::SessionFault;
-use super::telling::{settle_and_keep, tell_outcomes};
+use super::telling::{OutcomeWriter, settle_and_keep};
+use super::turns::stir;
 use crate::node0::Primary;
 use cown_workers::Crew;
 use sb_ask_log::Keeper;
 use sb_checkpoint::CheckpointStore;
-use sb_frames::FrameFault;
 use sb_text::READS;
 use std::alloc::Global;
 use std::io::{ErrorKind, Read, Write};
-
-// How many bytes one read asks for.
-const CHUNK: usize = 65_536;
 
 /// Serves one client, from its first byte to its last. Each ask is numbered and offered to node 0.
 /// After a read with a flush node 0 executes the whole log, and the client gets the outcome of each
@@ -36,7 +35,7 @@ const CHUNK: usize = 65_536;
 /// - [`SessionFault::Frame`] if bytes come that no frame begins with, or the last frame isn't
 ///   whole,
 /// - [`SessionFault::Unexpected`] if a frame comes that is neither an ask nor a flush,
-/// - [`SessionFault::TooMany`] if an ask comes and [`crate::ASKS_OF_SESSION`] wait for a flush,
+/// - [`SessionFault::TooMany`] if an ask comes and 2,000,000 wait for a flush ([`ClientLimits::alone`]),
 /// - [`SessionFault::CrewGone`] if the crew leaves something unfinished,
 /// - [`SessionFault::Device`] if a read or a write fails, or the client takes more than [`READS`]
 ///   reads,
@@ -69,136 +68,105 @@ pub fn serve_session<R: Read, W: Write, S: CheckpointStore, K: Keeper, C: Crew>(
     // What was kept stays kept, and a crew that keeps no job leaves none out, after a fault too.
     ensures serves { ServesOn K.model C.keeps result primary.old primary.new }
 {
-    let served = serve_frames(alloc, reader, writer, primary, crew);
+    let mut outcomes = OutcomeWriter::new(writer);
+    let served = serve_pieces(alloc, reader, &mut outcomes, primary, crew);
     // What was numbered is kept, whatever ended the session.
     primary.keep()?;
     served
 }
 
-// Serves one client, up to its last byte or to a fault. Asks after the last flush aren't kept yet.
-fn serve_frames<R: Read, W: Write, S: CheckpointStore, K: Keeper, C: Crew>(
+// Serves one client, up to its end. After a fault not all that was numbered is kept yet.
+fn serve_pieces<R: Read, W: Write, S: CheckpointStore, K: Keeper, C: Crew>(
     alloc: Global,
     reader: &mut R,
-    writer: &mut W,
+    writer: &mut OutcomeWriter<'_, W>,
     primary: &mut Primary<S, K>,
     crew: &mut C,
 ) -> Result<(), SessionFault>
     ensures served { OnOk result (IfSome (R.remaining reader.old) (ServesSession (opening_rows_of primary.old)
-        primary.old.log primary.new.log (W.contents writer.old) (W.contents writer.new))) }
+        primary.old.log primary.new.log (W.contents writer.old.writer.now) (W.contents writer.new.writer.now))) }
     ensures whole_log { OnOk result (HasWholeLog primary.new) }
     ensures cut_short { IfErr result (λ fault. IfSome (R.remaining reader.old) (λ input.
-        ServesUntilFault (opening_rows_of primary.old) primary.old.log primary.new.log (W.contents writer.old)
-        (W.contents writer.new) input fault)) }
+        ServesUntilFault (opening_rows_of primary.old) primary.old.log primary.new.log
+        (W.contents writer.old.writer.now) (W.contents writer.new.writer.now) input fault)) }
+    ensures same_writer { writer.new.writer.ghost_name ≡ writer.old.writer.ghost_name }
     // The bank goes on, after a fault too.
     ensures serves { ServesOn K.model C.keeps result primary.old primary.new }
 {
     primary.settle(crew)?;
-    let mut inbox = Inbox::new(alloc);
-    let mut outcomes: Vec<u8> = Vec::new(alloc);
-    let mut chunk = [0u8; CHUNK];
+    let mut client = Client::new(alloc, ClientLimits::alone());
+    let mut chunk = [0u8; READ_BYTES];
     for _ in 0..READS {
-        match reader.read(&mut chunk) {
-            Ok(0) => return end(&inbox, primary, crew),
-            Ok(count) => serve_bytes(
-                &chunk[..count],
-                &mut inbox,
-                &mut outcomes,
-                writer,
-                primary,
-                crew,
-            )?,
-            Err(error) => {
-                if error.kind() != ErrorKind::Interrupted {
-                    return Err(SessionFault::Device);
-                }
-            }
+        let Some(read) = read_piece(reader, &mut chunk) else {
+            continue;
+        };
+        serve_piece(&chunk, read, &mut client, writer, primary, crew)?;
+        if let Some(ending) = client.ending() {
+            return ending;
         }
     }
     Err(SessionFault::Device)
 }
 
-// Takes the bytes of one read, and writes what a flush among them makes due, also if a fault of the
-// client comes behind it.
-fn serve_bytes<W: Write, S: CheckpointStore, K: Keeper, C: Crew>(
-    bytes: &[u8],
-    inbox: &mut Inbox,
-    outcomes: &mut Vec<u8>,
-    writer: &mut W,
-    primary: &mut Primary<S, K>,
-    crew: &mut C,
-) -> Result<(), SessionFault>
-    requires within { ArePendingWithin (length primary.old.log) inbox.old.pending.items }
-    requires none_due { inbox.old.due ≡ 0 }
-    requires few { length inbox.old.pending.items ≤ ASKS_OF_SESSION }
-    requires healthy { inbox.old.stream.failed ≡ false }
-    ensures within { OnOk result (ArePendingWithin (length primary.new.log) inbox.new.pending.items) }
-    ensures none_due { OnOk result (inbox.new.due ≡ 0) }
-    ensures few { OnOk result (length inbox.new.pending.items ≤ ASKS_OF_SESSION) }
-    ensures short { OnOk result (IsShort inbox.new.stream) }
-    ensures leads { OnOk result (LeadsSession (opening_rows_of primary.old)
-        (session_state primary.old.log inbox.old (W.contents writer.old)) inbox.old.stream.unread bytes.now
-        (session_state primary.new.log inbox.new (W.contents writer.new)) inbox.new.stream.unread) }
-    ensures stops { IfErr result (λ fault. StopsSession (opening_rows_of primary.old)
-        (session_state primary.old.log inbox.old (W.contents writer.old)) inbox.old.stream.unread bytes.now fault
-        (session_state primary.new.log inbox.new (W.contents writer.new))) }
-    // The bank goes on, after a fault too.
-    ensures serves { ServesOn K.model C.keeps result primary.old primary.new }
+// Reads a piece: how many bytes, or none if the read failed. `None` altogether if it was interrupted.
+fn read_piece<R: Read>(reader: &mut R, chunk: &mut [u8]) -> Option<Option<usize>>
+    requires room { 0 < length chunk.old }
+    ensures within { IfSome result (λ read. IfSome read (λ count. count ≤ length chunk.new)) }
+    ensures bytes { IfSome result (λ read. Consumes (R.remaining reader.old) (R.remaining reader.new)
+        (bytes_of (piece_of chunk.new read ∷ []))) }
+    ensures end { IfSome result (λ read. piece_of chunk.new read ≡ Some [] → IsAtEnd (R.remaining reader.new)) }
+    ensures none { IfNone result (Consumes (R.remaining reader.old) (R.remaining reader.new) []) }
 {
-    let taken = take_bytes(bytes, ASKS_OF_SESSION, inbox, primary);
-    write_due(inbox, outcomes, writer, primary, crew)?;
-    taken?;
-    primary.offer_rest(crew)
+    match reader.read(chunk) {
+        Ok(count) => Some(Some(count)),
+        Err(error) => {
+            if error.kind() == ErrorKind::Interrupted {
+                None
+            } else {
+                Some(None)
+            }
+        }
+    }
 }
 
-// Writes the outcomes that are due, once the whole log is executed and kept.
-fn write_due<W: Write, S: CheckpointStore, K: Keeper, C: Crew>(
-    inbox: &mut Inbox,
-    outcomes: &mut Vec<u8>,
-    writer: &mut W,
+// A turn of a client that is served alone: takes a piece of what comes from it, and writes what it
+// is told.
+fn serve_piece<W: Write, S: CheckpointStore, K: Keeper, C: Crew>(
+    chunk: &[u8],
+    read: Option<usize>,
+    client: &mut Client,
+    writer: &mut OutcomeWriter<'_, W>,
     primary: &mut Primary<S, K>,
     crew: &mut C,
 ) -> Result<(), SessionFault>
-    requires within { ArePendingWithin (length primary.old.log) inbox.old.pending.items }
-    requires due { inbox.old.due ≤ length inbox.old.pending.items }
-    ensures within { OnOk result (ArePendingWithin (length primary.new.log) inbox.new.pending.items) }
-    ensures none_due { OnOk result (inbox.new.due ≡ 0) }
-    ensures fewer { OnOk result (length inbox.new.pending.items + inbox.old.due ≡ length inbox.old.pending.items) }
-    ensures writes { OnOk result (WritesDue (opening_rows_of primary.old)
-        (session_state primary.old.log inbox.old (W.contents writer.old))
-        (session_state primary.new.log inbox.new (W.contents writer.new))) }
-    ensures stream { inbox.new.stream ≡ inbox.old.stream }
-    ensures log { primary.new.log ≡ primary.old.log }
-    ensures fault { IfErr result IsFlushFault }
+    requires count { IfSome read (λ count. count ≤ length chunk.now) }
+    requires sound { IsSound (length primary.old.log) client.old }
+    requires told { client.old.outcomes ≡ [] }
+    ensures sound { OnOk result (IsSound (length primary.new.log) client.new) }
+    ensures told { OnOk result (client.new.outcomes ≡ []) }
+    ensures none_due { OnOk result (client.new.due ≡ 0) }
+    ensures limits { client.new.limits ≡ client.old.limits }
+    ensures served { OnOk result (ServesPiece (opening_rows_of primary.old) primary.old.log client.old
+        (W.contents writer.old.writer.now) (piece_of chunk.now read) primary.new.log client.new
+        (W.contents writer.new.writer.now)) }
+    ensures whole_log { OnOk result (HasWholeLog primary.new ⊎ (client.new.ending ≡ client.old.ending)) }
+    ensures stopped { OnErr result (StopsHearing (opening_rows_of primary.old) primary.old.log client.old
+        (piece_of chunk.now read) primary.new.log) }
+    ensures same_writer { writer.new.writer.ghost_name ≡ writer.old.writer.ghost_name }
     // The bank goes on, after a fault too.
     ensures serves { ServesOn K.model C.keeps result primary.old primary.new }
+    ensures fault { IfErr result IsFlushFault }
 {
-    if inbox.due == 0 {
+    if !stir(chunk, read, client, primary)? {
+        primary.offer_rest(crew)?;
         return Ok(());
     }
     settle_and_keep(primary, crew)?;
-    outcomes.clear();
-    inbox.push_due(primary, outcomes)?;
-    if tell_outcomes(writer, outcomes, primary).is_err() {
+    tell_client(client, primary)?;
+    if writer.write_outcomes(client.outcomes(), primary).is_err() {
         return Err(SessionFault::Device);
     }
+    let told = client.outcomes().len();
+    client.sent(told);
     Ok(())
-}
-
-// Ends a session at the end of what its client sent.
-fn end<S: CheckpointStore, K: Keeper, C: Crew>(
-    inbox: &Inbox,
-    primary: &mut Primary<S, K>,
-    crew: &mut C,
-) -> Result<(), SessionFault>
-    ensures whole { OnOk result (inbox.now.stream.unread ≡ []) }
-    ensures whole_log { OnOk result (HasWholeLog primary.new) }
-    ensures log { primary.new.log ≡ primary.old.log }
-    ensures fault { IfErr result (IsEndFault inbox.now.stream) }
-    // The bank goes on, after a fault too.
-    ensures serves { ServesOn K.model C.keeps result primary.old primary.new }
-{
-    if !inbox.stream.ended() {
-        return Err(SessionFault::Frame(FrameFault::Short));
-    }
-    primary.settle(crew)
 }

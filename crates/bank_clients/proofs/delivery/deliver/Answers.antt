@@ -3,6 +3,7 @@ use Rattle.std.specs.Prelude.{IfSome}
 use Rattle.bank_clients.specs.Sessions.{AreSentBut, outside_of}
 use Rattle.bank_clients.proofs.Deliveries.{delivers_but, delivers_to_all, sent_past}
 use Rattle.bank_clients.proofs.Histories.{delivers}
+use Rattle.bank_clients.proofs.Unread.{rests_at, rests_still}
 use Rattle.bank_clients.proofs.delivery.deliver.Goals as goal
 
 pub returns-then-place-len-clause-sent : goal.returns-then-place-len-clause-sent
@@ -39,3 +40,13 @@ pub returns-clause-stirred : goal.returns-clause-stirred
 returns-clause-stirred g c =
     let within : c.in-Some.place < length c.args.clients.now.all = omega (arith, c.if-place-len.false, c.len.ensures) in
     (delivers_to_all c.in-Some.place c.send-count.result c.args.clients.now c.sent.new.self within c.sent.ensures.taken).1
+
+pub returns-then-place-len-clause-rest : goal.returns-then-place-len-clause-rest
+returns-then-place-len-clause-rest g c = rests_still c.args.clients.now.all (g.A.Arrivals.outgoing c.args.connections.now).sent
+
+pub returns-clause-rest : goal.returns-clause-rest
+returns-clause-rest g c =
+    let within : c.in-Some.place < length c.args.clients.now.all = omega (arith, c.if-place-len.false, c.len.ensures) in
+    rests_at c.in-Some.place c.send-count.result c.outcomes.result.now c.args.clients.now c.sent.new.self
+    (g.A.Arrivals.outgoing c.args.connections.now).sent (g.A.Arrivals.outgoing c.send-count.new.self).sent within c.outcomes.ensures
+    c.send-count.ensures.sent c.sent.ensures.taken

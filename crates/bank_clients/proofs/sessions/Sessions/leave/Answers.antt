@@ -36,10 +36,10 @@ returns-clause-ready g c calls ready =
     record {
       ready = c.vacate.ensures.ready calls before.ready;
       listed = subst (λ (s : ClientsOf). AreListed c.retain.new.self.items s.all) (sym c.vacate.ensures.vacated)
-          (subst (λ (l : List ℕ). AreListed l (slice_set inside.clients.all place fresh_client)) (sym kept)
-          (listed_without inside.clients.all inside.leaving.items place within before.listed));
+          (subst (λ (l : List ℕ). AreListed l (slice_set inside.clients.all place (fresh_client inside.clients.limits))) (sym kept)
+          (listed_without inside.clients.limits inside.clients.all inside.leaving.items place within before.listed));
       sent = subst (λ (s : ClientsOf). AreSentBut (g.A.Arrivals.outgoing new).full (g.A.Connections.writable_places new) s.all)
           (sym c.vacate.ensures.vacated)
-          (sent_without (g.A.Arrivals.outgoing old).full (g.A.Arrivals.outgoing new).full (g.A.Connections.writable_places old)
+          (sent_without inside.clients.limits (g.A.Arrivals.outgoing old).full (g.A.Arrivals.outgoing new).full (g.A.Connections.writable_places old)
           (g.A.Connections.writable_places new) place inside.clients.all within c.leave.ensures.others before.sent);
     }

@@ -4,12 +4,16 @@ use Rattle.std.proofs.lemmas.Bool.{false≢true}
 use Rattle.std.proofs.lemmas.Result.{err_from_is_err_and}
 use Rattle.bank_server.specs.Clients.{OutgoingOf}
 use Rattle.bank_server.specs.Primary.{opening_rows_of}
-use Rattle.bank_server.proofs.sessions.Serving.{keep_serves, serves_behind, serves_kept}
+use Rattle.bank_server.specs.SessionFaults.{as_session, session_of_turn_fault}
+use Rattle.bank_server.proofs.boards.WholeReplies.{err_always}
+use Rattle.bank_server.proofs.sessions.Serving.{keep_fails, serves_kept}
 use Rattle.bank_clients.specs.History.{GoesOn}
 use Rattle.bank_clients.specs.Sessions.{AreReady, AreSentBut, SessionsOf, outside_of}
+use Rattle.bank_clients.specs.inner.Rounds.{LeavesRest}
 use Rattle.bank_clients.proofs.Deliveries.{sent_among, sent_before_turn}
 use Rattle.bank_clients.proofs.Histories.{round_goes_on}
-use Rattle.bank_clients.proofs.Leaving.{ended_in_round}
+use Rattle.bank_clients.proofs.Leaving.{ended_in_round, listed_behind}
+use Rattle.bank_clients.proofs.Unread.{unsent_behind}
 use Rattle.bank_clients.proofs.sessions.Sessions.serve.Goals as goal
 
 pub turn-requires : goal.turn-requires
@@ -19,27 +23,50 @@ turn-requires g c =
     c.requires.ready in
     record { ready = c.deliver_rest.ensures.ready calls before.ready }
 
+pub returns-in_err-turn-clause-unsent : goal.returns-in_err-turn-clause-unsent
+returns-in_err-turn-clause-unsent g c =
+    let outgoing = g.A.Arrivals.outgoing in
+    let rests = subst (λ (s : SessionsOf g.row.A.Denot). LeavesRest s.clients.all c.deliver_rest.new.clients.all (outgoing s.connections).sent
+    (outgoing c.deliver_rest.new.connections).sent) c.self.view_is c.deliver_rest.ensures.rest in
+    err_always _ (unsent_behind outgoing c.args.self.now c.deliver_rest.new.clients.all (outgoing c.deliver_rest.new.connections)
+    (outgoing c.turn.new.arrivals) rests c.turn.ensures.leaves.outgoing)
+
 pub returns-in_err-keep-clause-serves : goal.returns-in_err-keep-clause-serves
 returns-in_err-keep-clause-serves g c =
     let p = err_from_is_err_and c.from_residual-in_err-keep.result c.from_residual-in_err-keep.ensures.1 in
     let mid = c.turn.new.primary in
     let step = c.turn.ensures.serves in
-    rw (p.1, p.2) (serves_behind _ c.args.primary.now mid c.keep.new.self step.bank step.none_out
-    (keep_serves _ mid c.keep.new.self c.keep.ensures.bank c.keep.ensures.unchanged c.in_err-keep.ensures.fault))
+    rw (p.1, p.2) (keep_fails _ c.args.primary.now mid c.keep.new.self step.bank step.none_out c.keep.ensures.bank c.keep.ensures.unchanged
+    c.in_err-keep.ensures.fault)
+
+pub returns-in_err-keep-clause-unsent : goal.returns-in_err-keep-clause-unsent
+returns-in_err-keep-clause-unsent g c =
+    let outgoing = g.A.Arrivals.outgoing in
+    let rests = subst (λ (s : SessionsOf g.row.A.Denot). LeavesRest s.clients.all c.deliver_rest.new.clients.all (outgoing s.connections).sent
+    (outgoing c.deliver_rest.new.connections).sent) c.self.view_is c.deliver_rest.ensures.rest in
+    err_always _ (unsent_behind outgoing c.args.self.now c.deliver_rest.new.clients.all (outgoing c.deliver_rest.new.connections)
+    (outgoing c.turn.new.arrivals) rests c.turn.ensures.leaves.outgoing)
+
+pub returns-then-is_err-clause-unsent : goal.returns-then-is_err-clause-unsent
+returns-then-is_err-clause-unsent g c =
+    let outgoing = g.A.Arrivals.outgoing in
+    let rests = subst (λ (s : SessionsOf g.row.A.Denot). LeavesRest s.clients.all c.deliver_rest.new.clients.all (outgoing s.connections).sent
+    (outgoing c.deliver_rest.new.connections).sent) c.self.view_is c.deliver_rest.ensures.rest in
+    unsent_behind outgoing c.args.self.now c.deliver_rest.new.clients.all (outgoing c.deliver_rest.new.connections)
+    (outgoing c.turn.new.arrivals) rests c.turn.ensures.leaves.outgoing
 
 pub returns-then-is_err-clause-serves : goal.returns-then-is_err-clause-serves
 returns-then-is_err-clause-serves g c =
-    let step = serves_kept c.turn.result c.args.primary.now c.turn.new.primary c.keep.new.self c.turn.ensures.serves c.keep.ensures.bank
-    c.keep.ensures.unchanged in
+    let step = serves_kept (as_session session_of_turn_fault c.turn.result) c.args.primary.now c.turn.new.primary c.keep.new.self c.turn.ensures.serves
+    c.keep.ensures.bank c.keep.ensures.unchanged in
     record { bank = step.bank; none_out = step.none_out; crew_lost = tt; log_lost = tt }
 
 pub list_leaving-requires : goal.list_leaving-requires
 list_leaving-requires g c =
     let before = subst (λ (s : SessionsOf g.row.A.Denot).
     AreReady g.A.Arrivals.outgoing g.A.Connections.writable_places (length c.args.primary.now.log) s) (sym c.self.view_is) c.requires.ready in
-    ended_in_round c.self.inside.leaving.items c.turn.new.self.stirred c.deliver_new.new.clients.stirred c.self.inside.clients.all
-    c.deliver_rest.new.clients.all c.turn.new.self.all c.deliver_new.new.clients.all before.listed c.deliver_rest.ensures.endings
-    c.in_ok-turn.ensures.leaves.calm c.deliver_new.ensures.endings c.deliver_new.ensures.stirred
+    ended_in_round c.self.inside.leaving.items c.turn.new.self.stirred c.self.inside.clients.all c.deliver_rest.new.clients.all c.turn.new.self.all
+    before.listed c.deliver_rest.ensures.endings c.in_ok-turn.ensures.leaves.calm
 
 if_ok : {E P : Type 0} (result : Result (Unit {0}) E) → is_err result ≡ false → OnOk result P → P
 if_ok (Ok done) fine h = h
@@ -60,7 +87,8 @@ returns-clause-ready g c =
     let told : AreSentBut (g.A.Arrivals.outgoing last.connections).full [] last.clients.all = c.deliver_new.ensures.sent turned in (
       record {
         ready = c.deliver_new.ensures.ready (length c.turn.new.primary.log) c.in_ok-turn.ensures.ready;
-        listed = if_ok c.list_leaving.result (sym c.is_err.ensures.value ∙ c.if-is_err.false) c.list_leaving.ensures;
+        listed = listed_behind c.list_leaving.new.leaving.items c.turn.new.self.all last.clients.all c.deliver_new.ensures.endings
+            (if_ok c.list_leaving.result (sym c.is_err.ensures.value ∙ c.if-is_err.false) c.list_leaving.ensures);
         sent = sent_among (g.A.Arrivals.outgoing last.connections).full (g.A.Connections.writable_places last.connections) last.clients.all told;
       },
       told,

@@ -1,8 +1,8 @@
 use Rattle.std.proofs.Common.{rules, ◌≡◌, Some, sym, ap, subst, take, ◌∙◌}
-use Rattle.std.specs.Prelude.{OnOk}
+use Rattle.std.specs.Prelude.{OnErr, OnOk}
 use Rattle.bank_server.specs.Clients.{Piece, piece_of}
 use Rattle.bank_server.specs.Primary.{opening_rows_of}
-use Rattle.bank_server.specs.inner.ClientTurns.{HearsClient}
+use Rattle.bank_server.specs.inner.ClientTurns.{HearsClient, StopsHearing}
 use Rattle.bank_server.proofs.clients.ClientTurns.{hears_deaf, hears_ending, hears_failure}
 use Rattle.bank_server.proofs.sessions.Keeping.{numbers_nothing}
 use Rattle.bank_server.proofs.session.client.hear.Goals as goal
@@ -44,3 +44,9 @@ returns-in-Some-2-clause-heard g c =
     subst (λ (p : Piece). OnOk c.hear_bytes.result
     (HearsClient (opening_rows_of c.args.primary.now) c.args.primary.now.log c.args.client.now p c.hear_bytes.new.primary.log c.hear_bytes.new.client))
     (sym (ap (piece_of c.args.chunk.now) c.in-Some-2.is)) c.hear_bytes.ensures.heard
+
+pub returns-in-Some-2-clause-stopped : goal.returns-in-Some-2-clause-stopped
+returns-in-Some-2-clause-stopped g c =
+    subst (λ (p : Piece). OnErr c.hear_bytes.result
+    (StopsHearing (opening_rows_of c.args.primary.now) c.args.primary.now.log c.args.client.now p c.hear_bytes.new.primary.log))
+    (sym (ap (piece_of c.args.chunk.now) c.in-Some-2.is)) c.hear_bytes.ensures.stopped

@@ -1,5 +1,5 @@
-use Rattle.std.proofs.Common.{◌≡◌, ◌++◌, List, ℕ, subst}
-use Rattle.std.specs.Prelude.{IfErr, OnOk}
+use Rattle.std.proofs.Common.{◌≡◌, ◌<◌, ◌++◌, List, length, ℕ, subst}
+use Rattle.std.specs.Prelude.{◌↔◌, IfErr, IfOk, IsTrue, OnOk}
 use Rattle.bank_server.specs.inner.ClientSteps.{HandlesClient, StopsClient, inbox_state}
 use Rattle.bank_server.specs.Primary.{opening_rows_of}
 use Rattle.bank_server.proofs.clients.ClientSteps.{fed_unread, handles_nothing}
@@ -32,3 +32,10 @@ returns-clause-stops g c =
     (inbox_state c.args.primary.now.log c.args.inbox.now outcomes) unread fault
     (inbox_state c.take_frames.new.primary.log c.take_frames.new.inbox outcomes)))
     fed c.take_frames.ensures.stops
+
+pub returns-clause-whole : goal.returns-clause-whole
+returns-clause-whole g c =
+    let fed : c.feed.new.self.unread ≡ c.args.inbox.now.stream.unread ++ c.args.bytes.now =
+    fed_unread c.args.inbox.now.stream c.feed.new.self c.args.bytes.now c.feed.result c.if-is_err.ensures.value c.feed.ensures.state in
+    subst (λ (unread : List ℕ). IfOk c.take_frames.result (λ has_frame. IsTrue has_frame
+    ↔ (length c.take_frames.new.inbox.stream.unread < length unread))) fed c.take_frames.ensures.whole

@@ -1,10 +1,13 @@
-use Rattle.std.proofs.Common.{Option, Err, ◌++◌, ◌∷◌, [], sym, ap, subst, ◌∙◌}
+use Rattle.std.proofs.Common.{arith, ◌≡◌, ◌+◌, ◌<◌, Option, Err, ◌++◌, ◌∷◌, [], length, true≢false, refl, sym, ap, subst, ◌∙◌}
 use Rattle.std.specs.Prelude.{IfSome}
+use Rattle.std.proofs.lemmas.List.{length-append}
 use Rattle.std.proofs.lemmas.Result.{err_from_is_err_and}
 use Rattle.sb_rows.specs.Rows.{rows_of}
+use Rattle.sb_frames.specs.Grammar.{body}
 use Rattle.sb_frames.specs.Streaming.{HandsOutFrame, StreamState}
 use Rattle.sb_frames.specs.declared.fault.StreamFault.TheVariants.{Bad}
 use Rattle.sb_frames.specs.declared.frame.Frame.{Frame}
+use Rattle.sb_frames.proofs.Frames.{spelling_size}
 use Rattle.sb_replica.specs.Replica.{ReplicaOf}
 use Rattle.bank_server.specs.inner.ClientSteps.{LeadsClient, inbox_state}
 use Rattle.bank_server.specs.Primary.{opening_rows_of}
@@ -21,6 +24,8 @@ loop-frame-init g c = record {
   due = c.requires.due;
   few = c.requires.few;
   going = c.requires.healthy;
+  whole = (λ is. absurd (true≢false (sym is)), λ less. absurd (omega (arith, less)));
+  fewer = omega arith;
   numbered = numbers_nothing c.args.primary.now;
 }
 
@@ -33,6 +38,11 @@ loop-frame-preserved g c =
     subst (λ (o : Option Frame). IfSome o (λ frame. HandsOutFrame loop.inbox.stream frame c.next.new.self))
     c.in-Ok-Some.field-0-is c.in-Ok-Some.ensures.frame in
     let now = c.take_frame.new.inbox in
+    let size : length loop.inbox.stream.unread ≡ length handed.spelled.0 + length now.stream.unread =
+    ap length handed.spelled.2 ∙ length-append handed.spelled.0 c.next.new.self.unread
+    ∙ ap (λ (s : StreamState). length handed.spelled.0 + length s.unread) (sym step.stream) in
+    let some : length handed.spelled.0 ≡ 2 + length (body c.in-Ok-Some.frame) = ap length handed.spelled.1.spelled ∙ spelling_size c.in-Ok-Some.frame in
+    let less : length now.stream.unread < length c.args.inbox.now.stream.unread = omega (arith, size, some, kept.fewer) in
     record {
       handles = λ outcomes.
           let mid = inbox_state loop.primary.log loop.inbox outcomes in
@@ -47,6 +57,8 @@ loop-frame-preserved g c =
       due = step.due;
       few = step.few;
       going = ap (λ (s : StreamState). s.failed) step.stream ∙ handed.not_failed;
+      whole = (λ is. less, λ fewer. refl);
+      fewer = omega (arith, less);
       numbered = numbers_on c.args.primary.now loop.primary c.take_frame.new.primary kept.numbered step.numbered;
     }
 

@@ -1,4 +1,5 @@
-use Rattle.std.proofs.Common.{◌≡◌, ◌≤◌, ◌+◌, ℕ, List, false, length}
+use Rattle.std.proofs.Common.{◌≡◌, ◌≤◌, ◌<◌, ◌+◌, ℕ, List, false, length}
+use Rattle.std.specs.Prelude.{◌↔◌, IsTrue}
 use Rattle.bank_server.specs.Pending.{ArePendingWithin}
 use Rattle.bank_server.specs.inner.ClientSteps.{HandlesClient, inbox_state}
 use Rattle.bank_server.specs.Primary.{opening_rows_of}
@@ -14,6 +15,8 @@ invariant-loop-frame g l = record {
   due : l.inbox.due ≤ length l.inbox.pending.items;
   few : length l.inbox.pending.items ≤ l.inbox.due + l.fn.most;
   going : l.inbox.stream.failed ≡ false;
+  whole : IsTrue l.has_frame ↔ (length l.inbox.stream.unread < length l.fn.inbox.stream.unread);
+  fewer : length l.inbox.stream.unread ≤ length l.fn.inbox.stream.unread;
   numbered : NumbersAsks g.K.Keeper.model l.fn.primary l.primary;
 }
 

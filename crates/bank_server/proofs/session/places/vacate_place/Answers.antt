@@ -7,9 +7,9 @@ use Rattle.bank_server.proofs.session.places.vacate_place.Goals as goal
 pub returns-clause-ready : goal.returns-clause-ready
 returns-clause-ready c =
     subst (λ (x : ClientOf). StaysReady c.args.all.now (slice_set c.args.all.now c.args.place x)) (sym c.new.ensures)
-    (vacates_ready c.args.all.now c.args.place)
+    (vacates_ready c.args.limits c.args.all.now c.args.place)
 
 pub returns-clause-served : goal.returns-clause-served
 returns-clause-served c =
     subst (λ (x : ClientOf). StaysServed (past_with c.args.place no_past) c.args.all.now (slice_set c.args.all.now c.args.place x)) (sym c.new.ensures)
-    (vacates_served c.args.all.now c.args.place c.requires)
+    (vacates_served c.args.limits c.args.all.now c.args.place c.requires)

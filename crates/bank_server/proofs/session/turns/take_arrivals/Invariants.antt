@@ -1,5 +1,5 @@
 use Rattle.std.proofs.Common.{◌≡◌, ◌<◌, All, length}
-use Rattle.bank_server.specs.Clients.{AreCalmBut, IsSound}
+use Rattle.bank_server.specs.Clients.{AreCalmBut, AreUntold, IsSound}
 use Rattle.bank_server.specs.Primary.{opening_rows_of}
 use Rattle.bank_server.specs.inner.NumberedAsks.{NumbersAsks}
 use Rattle.bank_server.specs.inner.ClientTurns.{TakesSome}
@@ -13,6 +13,7 @@ invariant-loop g l = record {
       (g.A.Arrivals.here l.fn.arrivals) (g.A.Arrivals.here l.arrivals) l.counter l.fn.primary.log l.fn.clients l.primary.log l.clients;
   there : All (λ k. k < length l.clients) l.stirred.items;
   calm : AreCalmBut l.stirred.items l.fn.clients l.clients;
+  untold : AreUntold l.fn.clients l.clients;
   outgoing : g.A.Arrivals.outgoing l.arrivals ≡ g.A.Arrivals.outgoing l.fn.arrivals;
   as_many : length l.clients ≡ length l.fn.clients;
   numbered : NumbersAsks g.K.Keeper.model l.fn.primary l.primary;

@@ -1,64 +1,42 @@
-use Rattle.std.proofs.Common.{◌≡◌, ◌+◌, true, refl, ap, subst, ◌∙◌, arith}
-use Rattle.std.proofs.lemmas.Result.{err_from_is_err_and}
-use Rattle.sb_rows.specs.Rows.{Rows}
-use Rattle.bank_server.specs.Primary.{opening_rows_of}
-use Rattle.bank_server.proofs.boards.Boards.{idle_none_out}
-use Rattle.bank_server.specs.Followers.{FollowersOf}
-use Rattle.bank_service.specs.ServeFaults.{IsServingFault}
-use Rattle.bank_service.specs.ServedBank.{IsBankAfter}
-use Rattle.bank_service.specs.inner.ServeSteps.{ServesNext}
+use Rattle.std.proofs.Common.{◌∙◌, ◌+◌, arith, refl, subst}
+use Rattle.bank_clients.specs.Sessions.{outside_of}
 use Rattle.program_words.specs.declared.plan.Plan.{Plan}
-use Rattle.bank_service.proofs.BankAfter.{left_after_next, left_at_first}
-use Rattle.bank_service.proofs.GoneCrews.{finish_fault_beside, finish_fault_if, keeps_if}
-use Rattle.bank_service.proofs.PrintedLines.{next_session, no_sessions, same_rows}
+use Rattle.bank_service.specs.inner.AtOnceSteps.{ServesOver}
+use Rattle.bank_service.proofs.ServingAtOnce.{some_at_first, some_then_over}
 use Rattle.bank_service.proofs.server.Server.serve_all.Goals as goal
 
 pub loop-before-init : goal.loop-before-init
 loop-before-init g c = record {
-  served = no_sessions g.D.Reader.Read.remaining g.D.Writer.Write.contents (opening_rows_of c.args.self.now.primary)
-      (g.D.ClientListener.clients c.args.self.now.listener) c.args.self.now.primary.log
+  some = some_at_first g.S.CheckpointStore.model g.K.Keeper.model c.args.self.now.plan.saves
+      (outside_of g.A.Arrivals.coming g.A.Arrivals.outgoing c.args.self.now.sessions.connections) c.args.self.now.sessions.clients.all c.args.self.now.primary
       (g.W.Write.contents c.args.self.now.writer);
   within = omega arith;
-  left = left_at_first g.S.CheckpointStore.model g.K.Keeper.model c.args.self.now.plan.saves c.args.self.now.primary c.requires.one_each
-      c.requires.whole_log c.requires.kept;
+  ready = c.requires.ready;
+  none_out = c.requires.none_out;
   plan = refl;
   nodes = refl;
 }
 
 pub loop-before-preserved : goal.loop-before-preserved
 loop-before-preserved g c =
+    let outside = outside_of g.A.Arrivals.coming g.A.Arrivals.outgoing in
+    let model = g.S.CheckpointStore.model in
+    let keeper = g.K.Keeper.model in
     let kept = c.loop-before.invariant in
     let next = c.in_ok-serve_next.ensures in
+    let old = c.args.self.now in
+    let mid = c.loop-before.self in
+    let new = c.serve_next.new.self in
     record {
-      served = next_session g.D.Reader.Read.remaining g.D.Writer.Write.contents (opening_rows_of c.args.self.now.primary) c.loop-before.before
-          (g.D.ClientListener.clients c.args.self.now.listener) (g.D.ClientListener.clients c.loop-before.self.listener)
-          (g.D.ClientListener.clients c.serve_next.new.self.listener) c.args.self.now.primary.log
-          c.loop-before.self.primary.log c.serve_next.new.self.primary.log
-          (g.W.Write.contents c.args.self.now.writer) (g.W.Write.contents c.loop-before.self.writer) (g.W.Write.contents c.serve_next.new.self.writer)
-          kept.served (subst (λ (rows : Rows). ServesNext g.D.Reader.Read.remaining g.D.Writer.Write.contents rows (c.loop-before.before + 1)
-          (g.D.ClientListener.clients c.loop-before.self.listener) (g.D.ClientListener.clients c.serve_next.new.self.listener)
-          c.loop-before.self.primary.log c.serve_next.new.self.primary.log
-          (g.W.Write.contents c.loop-before.self.writer) (g.W.Write.contents c.serve_next.new.self.writer))
-          (same_rows c.args.self.now.primary c.loop-before.self.primary kept.left.bank) next.served);
+      some = some_then_over model keeper old.plan.saves c.loop-before.before (outside old.sessions.connections)
+          (outside mid.sessions.connections) (outside new.sessions.connections) old.sessions.clients.all mid.sessions.clients.all new.sessions.clients.all
+          old.primary mid.primary new.primary (g.W.Write.contents old.writer) (g.W.Write.contents mid.writer) (g.W.Write.contents new.writer) kept.some
+          (subst (λ (plan : Plan). ServesOver model keeper plan.saves (c.loop-before.before + 1) (outside mid.sessions.connections)
+          (outside new.sessions.connections) mid.sessions.clients.all new.sessions.clients.all mid.primary new.primary
+          (g.W.Write.contents mid.writer) (g.W.Write.contents new.writer)) kept.plan next.served);
       within = omega (arith, c.loop-before-test.true);
-      left = left_after_next g.S.CheckpointStore.model g.K.Keeper.model c.args.self.now.plan.saves c.loop-before.before
-          c.args.self.now.primary
-          c.loop-before.self.primary c.serve_next.new.self.primary kept.left
-          (subst (λ (plan : Plan).
-          IsBankAfter g.S.CheckpointStore.model g.K.Keeper.model plan.saves 1 c.loop-before.self.primary c.serve_next.new.self.primary)
-          kept.plan next.bank_after);
+      ready = next.ready;
+      none_out = λ e. next.none_out;
       plan = c.serve_next.ensures.plan ∙ kept.plan;
-      nodes = c.serve_next.ensures.nodes ∙ ap (λ (f : FollowersOf). f.nodes) c.compare_if_due.ensures.unchanged ∙ kept.nodes;
+      nodes = c.serve_next.ensures.nodes ∙ kept.nodes;
     }
-
-pub returns-in_err-serve_next-clause-fault : goal.returns-in_err-serve_next-clause-fault
-returns-in_err-serve_next-clause-fault g c =
-    let p = err_from_is_err_and c.from_residual-in_err-serve_next.result c.from_residual-in_err-serve_next.ensures.1 in
-    let kept = c.loop-before.invariant in
-    let nodes = c.args.followers.now.nodes in
-    let board = c.loop-before.self.primary.node.board in
-    let fault = c.in_err-serve_next.field-0.0 in
-    rw (p.1, p.2) (subst (λ (plan : Plan). IsServingFault nodes (g.C.Crew.keeps ≡ true) plan.saves g.K.Keeper.model.fails fault) kept.plan
-    (finish_fault_beside (g.C.Crew.keeps ≡ true) nodes c.loop-before.self.plan.saves g.K.Keeper.model.fails fault
-    (finish_fault_if c.loop-before.self.plan.saves g.K.Keeper.model.fails fault (keeps_if g.C.Crew.keeps board (idle_none_out board kept.left.all.idle))
-    c.in_err-serve_next.ensures.fault)))
