@@ -1,7 +1,8 @@
 -- The sessions of clients who are served at once.
-use Rattle.std.specs.Prelude.{◌≡◌, ◌⊎◌, ℕ, ◌==◌, Bool, true, if◌then◌else◌, Option, Some, None, is_some, List, [], ◌++◌, IfSome, slice_get}
+use Rattle.std.specs.Prelude.{◌≡◌, ◌⊎◌, ℕ, ◌==◌, Bool, true, if◌then◌else◌, Option, Some, None, is_some, List, [], ◌++◌, replicate, IfSome, slice_get}
 use Rattle.std.specs.List.{All, Contains, flat_map}
-use Rattle.bank_server.specs.Clients.{ClientOf, ClientsOf, End, IsReady, OutgoingOf, Piece}
+use Rattle.bank_server.specs.Clients.{ClientOf, ClientsOf, End, IsReady, OutgoingOf, Piece, fresh_client}
+use Rattle.bank_server.specs.declared.session.client_limits.ClientLimits.{ClientLimits}
 use Rattle.bank_clients.specs.History.{IsOver, OutsideOf, TakesBytes}
 
 -- connections, the clients there, and the places of those who ended and aren't left yet
@@ -9,6 +10,11 @@ pub record SessionsOf (A : Type 0) : Type 0 where
   pub connections : A
   pub clients : ClientsOf
   pub leaving : List ℕ
+
+-- so many clients before their first byte, within these limits, none of whom was told anything
+abbrev pub fresh_clients : ClientLimits → ℕ → ClientsOf
+fresh_clients limits count =
+    record { limits = limits; all = replicate count (fresh_client limits); stirred = [] }
 
 -- what is known of these connections, by what says so
 abbrev pub outside_of : {A : Type 0} → (A → Option (List (ℕ × Piece))) → (A → OutgoingOf) → A → OutsideOf

@@ -9,7 +9,7 @@ ghost use Rattle.bank_server.specs.Primary.{opening_rows_of};
 ghost use Rattle.bank_server.specs.ServesOn.{ServesOn};
 ghost use Rattle.bank_server.specs.SessionFaults.{IsCrewFault, as_session, session_of_turn_fault};
 ghost use Rattle.bank_clients.specs.History.{GoesOn};
-ghost use Rattle.bank_clients.specs.Sessions.{AreListed, AreReady, AreSentBut, IsOverAt, TakesUnread, outside_of};
+ghost use Rattle.bank_clients.specs.Sessions.{AreListed, AreReady, AreSentBut, IsOverAt, TakesUnread, fresh_clients, outside_of};
 ghost use Rattle.bank_clients.specs.inner.Rounds.{AreToBeListed};
 
 use crate::connections::Connections;
@@ -65,8 +65,9 @@ impl<A: Connections> Sessions<A> {
     where
         A: Drop,
         ensures connections { IfOk result (λ sessions. sessions.connections ≡ connections) }
+        // So many places, and each client there will have these limits.
+        ensures clients { IfOk result (λ sessions. sessions.clients ≡ fresh_clients limits places) }
         ensures fresh { IfOk result (λ sessions. All IsFreshClient sessions.clients.all) }
-        ensures places { IfOk result (λ sessions. length sessions.clients.all ≡ places) }
         ensures ready { IfOk result (λ sessions. (calls : ℕ)
             → AreReady A.outgoing A.writable_places calls sessions) }
     {

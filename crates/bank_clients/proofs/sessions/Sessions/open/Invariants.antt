@@ -1,11 +1,11 @@
-use Rattle.std.proofs.Common.{◌≡◌, length}
-use Rattle.std.specs.List.{All}
-use Rattle.bank_server.specs.Clients.{IsFreshClient}
+use Rattle.std.proofs.Common.{◌≡◌, [], replicate}
+use Rattle.bank_server.specs.Clients.{fresh_client}
 use Rattle.bank_clients.proofs.sessions.Sessions.open.Given as goal
 
--- so many joined, and nothing came from them
+-- so many joined, within these limits
 abbrev pub invariant-loop : goal.invariant-loop
 invariant-loop g l = record {
-  fresh : All IsFreshClient l.clients.all;
-  places : length l.clients.all ≡ l.counter;
+  limits : l.clients.limits ≡ l.fn.limits;
+  all : l.clients.all ≡ replicate l.counter (fresh_client l.fn.limits);
+  stirred : l.clients.stirred ≡ [];
 }
