@@ -15,9 +15,9 @@ use Rattle.bank_server.specs.declared.session.client_limits.ClientLimits.{Client
 use Rattle.bank_server.proofs.clients.ClientPlaces.{fresh_ready, fresh_served}
 use Rattle.bank_server.proofs.sessions.OwnLog.{own_log}
 use Rattle.bank_server.specs.Clients.{ClientOf, End, IsReady, IsServed, OutgoingOf, Piece, ServesTurn, StaysServed, TakesFromFront, IsFreshClient, fresh_client, no_past, past_with, sends}
-use Rattle.bank_clients.specs.History.{ClientEvent, ComesAndGoes, GoesOn, HistoryOf, MayAllHappen, MayHappen, OutsideOf, ServesEach, TakesBytes, bytes_in, ends_in, first_history, history_after, pieces_in, with_client_event}
+use Rattle.bank_clients.specs.History.{ClientEvent, ComesAndGoes, GoesOn, HistoryOf, IsOverAt, MayAllHappen, MayHappen, OutsideOf, ServesEach, TakesBytes, bytes_in, ends_in, first_history, history_after, pieces_in, with_client_event}
 use Rattle.bank_clients.specs.History.{Comes, Takes, Leaves}
-use Rattle.bank_clients.specs.Sessions.{AreReady, IsOverAt, IsUnsent, SessionsOf}
+use Rattle.bank_clients.specs.Sessions.{AreReady, IsUnsent, SessionsOf}
 use Rattle.bank_clients.specs.inner.Rounds.{StandsBy}
 use Rattle.bank_clients.proofs.Places.{if_there}
 
@@ -124,12 +124,9 @@ delivers a b place count bytes old new within outcomes coming went stays =
 -- a client leaves, whose session is over so
 pub leaves_goes_on : (opening : Rows) (a b : OutsideOf) (log : Log) (old new : List ClientOf) (place : ℕ) (end : End) → b.coming ≡ a.coming
     → b.sent ≡ a.sent → IsOverAt old place end → StaysServed (past_with place no_past) old new → GoesOn opening a log old (end ∷ []) b log new
-leaves_goes_on opening a b log old new place end coming sent (client, is, over) stays h served =
+leaves_goes_on opening a b log old new place end coming sent over stays h served =
     let event = Leaves place end in
-    let is_served : IsServed opening h.asks log (h.past place) client =
-    if_there (λ c. IsServed opening h.asks log (h.past place) c) old place client is (served.each place) in
-    let may : MayHappen opening h event =
-    (client, subst (λ (l : Log). IsServed opening h.asks l (h.past place) client) served.log_is is_served, over) in
+    let may : MayHappen opening h event = (old, subst (λ (l : Log). ServesEach opening h l old) served.log_is served, over) in
     let out : ComesAndGoes a b (end ∷ []) (event ∷ []) = record {
       came = subst (λ (c : Coming). TakesFromFront a.coming c []) (sym coming) (nothing_came a.coming);
       went = subst (λ (s : Sent). TakesBytes a.sent s []) (sym sent) (nothing_went a.sent);

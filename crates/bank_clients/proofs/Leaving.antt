@@ -1,5 +1,5 @@
 -- Who has ended, and is to be left.
-use Rattle.std.proofs.Common.{◌≡◌, ℕ, ◌+◌, ◌<◌, Bool, true, false, cond, Option, Some, None, List, [], ◌∷◌, refl, sym, ap, subst, ◌∙◌, drop, length, inl, inr}
+use Rattle.std.proofs.Common.{arith, ◌≡◌, ℕ, ◌+◌, ◌≤◌, ◌<◌, Bool, true, false, cond, Option, Some, None, List, [], ◌∷◌, refl, sym, ap, subst, ◌∙◌, drop, length, inl, inr}
 use Rattle.std.specs.Prelude.{◌==◌, ◌≢◌, ◌⊎◌, IfSome, is_some, not, slice_get, slice_set}
 use Rattle.std.specs.List.{All, Contains, filter}
 use Rattle.std.proofs.lemmas.Bool.{eqb-true, false≢true}
@@ -7,8 +7,9 @@ use Rattle.std.proofs.lemmas.List.Elements.{All-contains, Contains-append_cases,
 use Rattle.sb_calls.proofs.CownContents.{eqb-refl}
 use Rattle.bank_server.specs.Clients.{AreCalmBut, ClientOf, End, IsCalm, fresh_client}
 use Rattle.bank_server.specs.declared.session.client_limits.ClientLimits.{ClientLimits}
-use Rattle.bank_clients.specs.Sessions.{AreListed, IsOverAt}
-use Rattle.bank_clients.specs.inner.Rounds.{AreToBeListed, endings_of}
+use Rattle.bank_clients.specs.History.{IsOverAt, unread_by_all, unread_limit}
+use Rattle.bank_clients.specs.Sessions.{AreListed}
+use Rattle.bank_clients.specs.inner.Rounds.{AreToBeListed, IsOverAlone, endings_of}
 use Rattle.bank_clients.proofs.Places.{among_rest, each_by_ending, each_with, if_there, nobody_among, one_alone, rest_from}
 
 -- ---- who is listed
@@ -87,13 +88,20 @@ listed_if_ended clients place IsListed ending same open_end = by (slice_get clie
 
 -- ---- who is over
 
--- whoever is over has ended, and is listed
-pub none_over : (clients : List ClientOf) (listed : List ℕ) → AreListed listed clients
-    → All (λ (place : ℕ). (end : End) → ¬ IsOverAt clients place end) listed → (place : ℕ) (end : End) → ¬ IsOverAt clients place end
-none_over clients listed all none place end (client, is, over) =
+-- whoever is over by its own client has ended, and is listed
+none_over_alone : (clients : List ClientOf) (listed : List ℕ) → AreListed listed clients
+    → All (λ (place : ℕ). (end : End) → ¬ IsOverAlone clients place end) listed → (place : ℕ) (end : End) → ¬ IsOverAlone clients place end
+none_over_alone clients listed all none place end (client, is, over) =
     let ended : is_some client.ending ≡ true = ap (λ (e : Option End). is_some e) over.1 in
-    All-contains (λ (place : ℕ). (end : End) → ¬ IsOverAt clients place end) listed place none
+    All-contains (λ (place : ℕ). (end : End) → ¬ IsOverAlone clients place end) listed place none
     (if_there (λ c. is_some c.ending ≡ true → Contains listed place) clients place client is (all place) ended) end (client, is, over)
+
+-- and nobody else is, if all together have few unread
+pub none_over : (clients : List ClientOf) (listed : List ℕ) → AreListed listed clients
+    → All (λ (place : ℕ). (end : End) → ¬ IsOverAlone clients place end) listed → unread_by_all clients ≤ unread_limit
+    → (place : ℕ) (end : End) → ¬ IsOverAt clients place end
+none_over clients listed all none few place end (client, is, inl over) = none_over_alone clients listed all none place end (client, is, over)
+none_over clients listed all none few place end (client, is, inr (ended, most)) = omega (arith, most.0, few)
 
 -- ---- who was left
 

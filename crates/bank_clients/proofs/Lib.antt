@@ -3,3 +3,4 @@ pub mod Histories
 pub mod Leaving
 pub mod Places
 pub mod Unread
+pub mod UnreadByAll

@@ -1,6 +1,6 @@
 -- What happens to clients who are served at once, from the first to the last.
-use Rattle.std.specs.Prelude.{◌≡◌, ◌⊎◌, ℕ, Bool, true, Option, Some, Err, List, [], ◌∷◌, ◌++◌, IfSome}
-use Rattle.std.specs.List.{All, flat_map, fold}
+use Rattle.std.specs.Prelude.{◌≡◌, ◌⊎◌, ◌≤◌, ◌<◌, ℕ, Bool, true, Option, Some, Err, List, [], ◌∷◌, ◌++◌, length, map, IfSome, slice_get}
+use Rattle.std.specs.List.{All, flat_map, fold, sum}
 use Rattle.sb_rows.specs.Rows.{Rows}
 use Rattle.sb_calls.specs.declared.ask.Key.{Key}
 use Rattle.sb_calls.specs.declared.call.Call.{Call}
@@ -39,7 +39,14 @@ with_client_event h (Leaves place end) = record { asks = h.asks; past = past_wit
 abbrev pub history_after : HistoryOf → List ClientEvent → HistoryOf
 history_after h events = fold with_client_event h events
 
--- ---- what may happen
+-- ---- who is served
+
+-- after this history, the log is that of all asks, and each client is served by it, as if its own
+-- session were alone
+abbrev pub ServesEach : Rows → HistoryOf → List (Key × Call) → List ClientOf → Type 0
+ServesEach opening h log clients = AreServed (IsServed opening) h.asks h.past log clients
+
+-- ---- whose session is over
 
 -- how a session is over whose client ended so, with these outcomes left: its own way if none is left;
 -- with Device if its connection failed, or it left too many unread
@@ -52,13 +59,33 @@ abbrev pub IsOver : ClientOf → End → Type 0
 IsOver client end =
     (own : End) × (client.ending ≡ Some own) × IsOverWith own client.outcomes client.broken end
 
--- frames are taken as they came, and a client leaves only when its session is over: one that is served,
--- and has this past, is over so
+-- the most bytes of outcomes that all clients together may leave unread
+abbrev pub unread_limit : ℕ
+unread_limit = 268435456
+
+-- how many bytes of outcomes these clients have unread, all together
+abbrev pub unread_by_all : List ClientOf → ℕ
+unread_by_all clients = sum (map (λ client. length client.outcomes) clients)
+
+-- all clients together have too much unread, and nobody has more than this one
+abbrev pub HasMostUnread : List ClientOf → ClientOf → Type 0
+HasMostUnread clients client = (unread_limit < unread_by_all clients)
+    × All (λ other. length other.outcomes ≤ length client.outcomes) clients
+
+-- the session at a place is over so: by its own client, or with Device since all have too much unread
+abbrev pub IsOverAt : List ClientOf → ℕ → End → Type 0
+IsOverAt clients place end = (client : ClientOf) × (slice_get clients place ≡ Some client)
+    × (IsOver client end ⊎ ((end ≡ Err Device) × HasMostUnread clients client))
+
+-- ---- what may happen
+
+-- frames are taken as they came, and a client leaves only when its session is over: of clients that are
+-- served, and have this past, the one at this place is over so
 abbrev pub MayHappen : Rows → HistoryOf → ClientEvent → Type 0
 MayHappen opening h (Comes pieces taken) = AreTakenInOrder pieces taken
 MayHappen opening h (Takes place bytes) = Unit {0}
-MayHappen opening h (Leaves place end) = (client : ClientOf)
-    × IsServed opening h.asks (first_asks h.asks) (h.past place) client × IsOver client end
+MayHappen opening h (Leaves place end) = (clients : List ClientOf)
+    × ServesEach opening h (first_asks h.asks) clients × IsOverAt clients place end
 
 -- each of these events may happen, one after another
 abbrev pub MayAllHappen : Rows → HistoryOf → List ClientEvent → Type 0
@@ -99,12 +126,7 @@ pub record ComesAndGoes (old new : OutsideOf) (ends : List End) (events : List C
   pub went : TakesBytes old.sent new.sent (flat_map bytes_in events)
   pub ended : ends ≡ flat_map ends_in events
 
--- ---- who is served
-
--- after this history, the log is that of all asks, and each client is served by it, as if its own
--- session were alone
-abbrev pub ServesEach : Rows → HistoryOf → List (Key × Call) → List ClientOf → Type 0
-ServesEach opening h log clients = AreServed (IsServed opening) h.asks h.past log clients
+-- ---- what goes on
 
 -- whatever the history was: what may happen happens, as it did outside, sessions end so, in this order,
 -- and after it all clients are served

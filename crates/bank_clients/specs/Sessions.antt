@@ -1,9 +1,9 @@
 -- The sessions of clients who are served at once.
 use Rattle.std.specs.Prelude.{◌≡◌, ◌⊎◌, ℕ, ◌==◌, Bool, true, if◌then◌else◌, Option, Some, None, is_some, List, [], ◌++◌, replicate, IfSome, slice_get}
 use Rattle.std.specs.List.{All, Contains, flat_map}
-use Rattle.bank_server.specs.Clients.{ClientOf, ClientsOf, End, IsReady, OutgoingOf, Piece, fresh_client}
+use Rattle.bank_server.specs.Clients.{ClientOf, ClientsOf, IsReady, OutgoingOf, Piece, fresh_client}
 use Rattle.bank_server.specs.declared.session.client_limits.ClientLimits.{ClientLimits}
-use Rattle.bank_clients.specs.History.{IsOver, OutsideOf, TakesBytes}
+use Rattle.bank_clients.specs.History.{OutsideOf, TakesBytes}
 
 -- connections, the clients there, and the places of those who ended and aren't left yet
 pub record SessionsOf (A : Type 0) : Type 0 where
@@ -20,11 +20,6 @@ fresh_clients limits count =
 abbrev pub outside_of : {A : Type 0} → (A → Option (List (ℕ × Piece))) → (A → OutgoingOf) → A → OutsideOf
 outside_of coming outgoing connections =
     record { coming = coming connections; sent = (outgoing connections).sent }
-
--- the session at a place is over so
-abbrev pub IsOverAt : List ClientOf → ℕ → End → Type 0
-IsOverAt clients place end =
-    (client : ClientOf) × (slice_get clients place ≡ Some client) × IsOver client end
 
 -- the connection at a place takes no more by now, or is among those that are writable again
 abbrev pub IsUnsent : (ℕ → Bool) → List ℕ → ℕ → Type 0

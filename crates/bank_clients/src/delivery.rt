@@ -14,6 +14,8 @@ pub(crate) fn deliver_new<A: Connections>(connections: &mut A, clients: &mut Cli
     // If it was told to nobody else, nobody waits whose connection takes more.
     ensures sent { AreSentBut (A.outgoing connections.old).full clients.old.stirred clients.old.all
         → AreSentBut (A.outgoing connections.new).full [] clients.new.all }
+    ensures rest { LeavesRest clients.old.all clients.new.all
+        (A.outgoing connections.old).sent (A.outgoing connections.new).sent }
     ensures ready { StaysReady clients.old.all clients.new.all }
     ensures endings { endings_of clients.new.all ≡ endings_of clients.old.all }
     ensures stirred { clients.new.stirred ≡ clients.old.stirred }

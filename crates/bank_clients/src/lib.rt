@@ -5,6 +5,7 @@ mod client_errors;
 mod connections;
 mod delivery;
 mod dismissing;
+mod greediest;
 mod laws;
 mod lingering;
 mod one_by_one;

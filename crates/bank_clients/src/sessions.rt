@@ -1,5 +1,5 @@
 //! The sessions of clients who are served at once.
-ghost use Rattle.std.specs.Prelude.{◌≡◌, ◌∷◌, ℕ, List, [], length, IfErr, IfNone, IfOk, IfSome, OnErr, OnOk, slice_set};
+ghost use Rattle.std.specs.Prelude.{◌≡◌, ◌≤◌, ◌∷◌, ℕ, List, [], length, IfErr, IfNone, IfOk, IfSome, OnErr, OnOk, slice_set};
 ghost use Rattle.std.specs.List.{All};
 ghost use Rattle.sb_calls.specs.declared.ask.Key.{Key as AnyKey};
 ghost use Rattle.sb_calls.specs.declared.call.Call.{Call as AnyCall};
@@ -8,12 +8,13 @@ ghost use Rattle.bank_server.specs.Clients.{End, IsFreshClient, fresh_client};
 ghost use Rattle.bank_server.specs.Primary.{opening_rows_of};
 ghost use Rattle.bank_server.specs.ServesOn.{ServesOn};
 ghost use Rattle.bank_server.specs.SessionFaults.{IsCrewFault, as_session, session_of_turn_fault};
-ghost use Rattle.bank_clients.specs.History.{GoesOn};
-ghost use Rattle.bank_clients.specs.Sessions.{AreListed, AreReady, AreSentBut, IsOverAt, TakesUnread, fresh_clients, outside_of};
-ghost use Rattle.bank_clients.specs.inner.Rounds.{AreToBeListed};
+ghost use Rattle.bank_clients.specs.History.{GoesOn, IsOverAt, unread_by_all, unread_limit};
+ghost use Rattle.bank_clients.specs.Sessions.{AreListed, AreReady, AreSentBut, TakesUnread, fresh_clients, outside_of};
+ghost use Rattle.bank_clients.specs.inner.Rounds.{AreToBeListed, HasMostUnreadAt, IsOverAlone};
 
 use crate::connections::Connections;
 use crate::delivery::{deliver_new, deliver_rest};
+use crate::greediest::{find_greediest, is_exceeded};
 use bank_server::{ClientLimits, Clients, Primary, SessionFault, TurnFault};
 use cown_workers::{Crew, CrewFault};
 use sb_ask_log::Keeper;
@@ -38,9 +39,13 @@ pub struct Sessions<A> {
     clients: Clients,
     // The places of clients who ended, and aren't left yet.
     leaving: Vec<usize>,
+    // Whether all clients together may have too much unread.
+    may_exceed: bool,
 }
 
 impl<A> Model for Sessions<A> {
+    ghost use Rattle.std.specs.Prelude.{◌≡◌, ◌≤◌, false};
+    ghost use Rattle.bank_clients.specs.History.{unread_by_all, unread_limit};
     ghost use Rattle.bank_clients.specs.Sessions.{SessionsOf};
 
     ghost Value = { SessionsOf A };
@@ -50,6 +55,8 @@ impl<A> Model for Sessions<A> {
       clients = s.clients;
       leaving = s.leaving.items;
     } };
+
+    ghost invariant = { λ s. s.may_exceed ≡ false → unread_by_all s.clients.all ≤ unread_limit };
 }
 
 impl<A: Connections> Sessions<A> {
@@ -79,6 +86,7 @@ impl<A: Connections> Sessions<A> {
             connections,
             clients,
             leaving: Vec::with_capacity(alloc, places)?,
+            may_exceed: false,
         })
     }
 
@@ -128,6 +136,9 @@ impl<A: Connections> Sessions<A> {
         // What was kept stays kept, and a crew that keeps no job leaves none out, after a fault too.
         ensures serves { ServesOn K.model C.keeps (as_session session_of_turn_fault result) primary.old primary.new }
     {
+        let may_exceed = self.may_exceed;
+        // So it is if the round isn't gone through.
+        self.may_exceed = true;
         deliver_rest(&mut self.connections, &mut self.clients);
         self.clients.turn(&mut self.connections, primary, crew)?;
         if list_leaving(&self.clients, &mut self.leaving).is_err() {
@@ -135,15 +146,18 @@ impl<A: Connections> Sessions<A> {
             return Err(TurnFault::Crew(CrewFault::OutOfMemory));
         }
         deliver_new(&mut self.connections, &mut self.clients);
+        self.may_exceed = is_exceeded(may_exceed, &self.clients);
         Ok(())
     }
 
     /// A session that is over now: its client ended, and its connection took all outcomes, or failed, or
-    /// left too many unread. `None` if none is.
+    /// left too many unread. Or all clients together have too much unread, and nobody has more than this
+    /// one. `None` if none is.
     pub fn next_over(&self) -> Option<Over>
         requires { AreListed self.now.leaving self.now.clients.all }
         ensures over { IfSome result (λ over. IsOverAt self.now.clients.all over.place over.ending) }
         ensures none { IfNone result ((place : ℕ) (end : End) → ¬ IsOverAt self.now.clients.all place end) }
+        ensures few_unread { IfNone result (unread_by_all self.now.clients.all ≤ unread_limit) }
     {
         for place in &self.leaving {
             if let Some(ending) = self.over_at(*place) {
@@ -153,13 +167,30 @@ impl<A: Connections> Sessions<A> {
                 });
             }
         }
-        None
+        // Who is over anyway leaves first. Then too much may not be unread any more.
+        let place = self.greediest()?;
+        Some(Over {
+            place,
+            ending: Err(SessionFault::Device),
+        })
     }
 
-    // How the session at a place is over, if it is.
+    // The place of a client who has most unread, if all together have too much.
+    fn greediest(&self) -> Option<usize>
+        ensures most { IfSome result (λ place. HasMostUnreadAt self.now.clients.all place) }
+        ensures few { IfNone result (unread_by_all self.now.clients.all ≤ unread_limit) }
+    {
+        if self.may_exceed {
+            find_greediest(&self.clients)
+        } else {
+            None
+        }
+    }
+
+    // How the session at a place is over by its own client, if it is.
     fn over_at(&self, place: usize) -> Option<Result<(), SessionFault>>
-        ensures over { IfSome result (λ ending. IsOverAt self.now.clients.all place ending) }
-        ensures none { IfNone result ((end : End) → ¬ IsOverAt self.now.clients.all place end) }
+        ensures over { IfSome result (λ ending. IsOverAlone self.now.clients.all place ending) }
+        ensures none { IfNone result ((end : End) → ¬ IsOverAlone self.now.clients.all place end) }
     {
         if place >= self.clients.len() {
             return None;

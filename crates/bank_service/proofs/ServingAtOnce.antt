@@ -1,5 +1,5 @@
 -- Serving many clients of a bank at once, step by step.
-use Rattle.std.proofs.Common.{◌≡◌, ℕ, ◌+◌, Bool, Option, Some, None, List, [], ◌∷◌, ◌++◌, false, length, refl, sym, ap, subst, ◌∙◌, arith, length-append}
+use Rattle.std.proofs.Common.{◌≡◌, ℕ, ◌+◌, Bool, Option, Some, None, List, [], ◌∷◌, ◌++◌, false, length, refl, sym, ap, subst, ◌∙◌, arith, length-append, inl, inr}
 use Rattle.std.specs.Prelude.{Result, Ok, Err, IfSome, OnOk, slice_get}
 use Rattle.std.proofs.KnownBytes.{Appends-nil}
 use Rattle.std.proofs.lemmas.List.Elements.{All-append, All-cons, All-nil}
@@ -19,8 +19,7 @@ use Rattle.bank_server.specs.Execution.{HasNoEntries}
 use Rattle.bank_server.specs.Clients.{ClientOf, End, IsLeft, IsServed, PastOf}
 use Rattle.bank_server.specs.Primary.{PreservesBank, PrimaryOf, opening_rows_of}
 use Rattle.bank_server.specs.declared.session.session_fault.SessionFault.TheVariants.{Frame, Unexpected, CrewGone, Device, OutOfMemory, Log, TooMany}
-use Rattle.bank_clients.specs.History.{GoesOn, HistoryOf, IsOver, IsOverWith, OutsideOf, ServesEach, history_after}
-use Rattle.bank_clients.specs.Sessions.{IsOverAt}
+use Rattle.bank_clients.specs.History.{GoesOn, HistoryOf, IsOver, IsOverAt, IsOverWith, OutsideOf, ServesEach, history_after}
 use Rattle.bank_clients.proofs.Histories.{goes_on_then, stays_on}
 use Rattle.bank_service.specs.ServeOutput.{PrintsLines, ServerContinues, end_lines, log_lines, port_line, session_line, session_lines}
 use Rattle.bank_service.specs.ServedAtOnce.{ServesAtOnce}
@@ -61,7 +60,8 @@ continues_if_over opening asks log past client end served (own, ended, is) =
 -- a session that is over lets the server go on
 pub over_continues : (opening : Rows) (h : HistoryOf) (log : CallLog) (clients : List ClientOf) (place : ℕ) (end : End)
     → ServesEach opening h log clients → IsOverAt clients place end → ServerContinues end
-over_continues opening h log clients place end served (client, is, over) =
+over_continues opening h log clients place end served (client, is, inr (ended, most)) = subst ServerContinues (sym ended) tt
+over_continues opening h log clients place end served (client, is, inl over) =
     continues_if_over opening h.asks log (h.past place) client end
     (subst (λ (o : Option ClientOf). IfSome o (λ c. IsServed opening h.asks log (h.past place) c)) is (served.each place)) over
 

@@ -2,8 +2,8 @@
 ghost use Rattle.std.specs.Prelude.{◌≡◌, ◌⊎◌, ◌∷◌, [], false, true, length, IfErr, IfOk, OnOk};
 ghost use Rattle.cown_workers.specs.Draining.{HasNoneOut};
 ghost use Rattle.bank_server.specs.Primary.{PreservesBank, opening_rows_of};
-ghost use Rattle.bank_clients.specs.History.{GoesOn, HistoryOf, ServesEach};
-ghost use Rattle.bank_clients.specs.Sessions.{AreReady, IsOverAt, outside_of};
+ghost use Rattle.bank_clients.specs.History.{GoesOn, HistoryOf, IsOverAt, ServesEach};
+ghost use Rattle.bank_clients.specs.Sessions.{AreReady, outside_of};
 ghost use Rattle.bank_service.specs.ServeFaults.{IsFinishFault, IsServingFault};
 ghost use Rattle.bank_service.specs.ServedAtOnce.{ServesAtOnce};
 ghost use Rattle.bank_service.specs.ServedBank.{IsBankAfter};

@@ -1,11 +1,11 @@
 -- Steps of a round in which nothing is asked.
-use Rattle.std.specs.Prelude.{◌≡◌, ◌⊎◌, ℕ, true, Option, is_some, List, [], ◌++◌, map, IfSome, slice_get}
-use Rattle.std.specs.List.{Contains}
+use Rattle.std.specs.Prelude.{◌≡◌, ◌⊎◌, ℕ, true, Option, Some, is_some, List, [], ◌++◌, map, IfSome, slice_get}
+use Rattle.std.specs.List.{All, Contains}
 use Rattle.sb_calls.specs.declared.ask.Key.{Key}
 use Rattle.sb_calls.specs.declared.call.Call.{Call}
 use Rattle.sb_rows.specs.Rows.{Rows}
 use Rattle.bank_server.specs.Clients.{ClientOf, End}
-use Rattle.bank_clients.specs.History.{GoesOn, OutsideOf, TakesBytes}
+use Rattle.bank_clients.specs.History.{GoesOn, HasMostUnread, IsOver, OutsideOf, TakesBytes}
 use Rattle.bank_clients.specs.Sessions.{bytes_to, unread_of}
 
 -- whatever the log is, it stays, no session ends, and each client stays served
@@ -28,3 +28,18 @@ endings_of clients = map (λ client. client.ending) clients
 abbrev pub AreToBeListed : List ℕ → List ℕ → List ClientOf → Type 0
 AreToBeListed listed next clients = (i : ℕ) → IfSome (slice_get clients i)
     (λ client. is_some client.ending ≡ true → Contains listed i ⊎ Contains next i)
+
+-- the session at a place is over so, whatever other clients have unread
+abbrev pub IsOverAlone : List ClientOf → ℕ → End → Type 0
+IsOverAlone clients place end =
+    (client : ClientOf) × (slice_get clients place ≡ Some client) × IsOver client end
+
+-- the client at a place has most unread of all, who together have too much
+abbrev pub HasMostUnreadAt : List ClientOf → ℕ → Type 0
+HasMostUnreadAt clients place =
+    (client : ClientOf) × (slice_get clients place ≡ Some client) × HasMostUnread clients client
+
+-- the clients at these places have nothing unread
+abbrev pub HaveNoneUnread : List ℕ → List ClientOf → Type 0
+HaveNoneUnread places clients =
+    All (λ place. IfSome (slice_get clients place) (λ client. client.outcomes ≡ [])) places

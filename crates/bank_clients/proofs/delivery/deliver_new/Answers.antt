@@ -4,6 +4,7 @@ use Rattle.bank_clients.specs.Sessions.{outside_of}
 use Rattle.bank_clients.proofs.Deliveries.{sent_on, sent_to_all}
 use Rattle.bank_clients.proofs.Histories.{stands_then}
 use Rattle.bank_clients.proofs.Places.{read_at}
+use Rattle.bank_clients.proofs.Unread.{rests_then}
 use Rattle.bank_clients.proofs.delivery.deliver_new.Goals as goal
 
 pub loop-index-preserved : goal.loop-index-preserved
@@ -22,6 +23,8 @@ loop-index-preserved g c =
           loop.clients.all c.deliver.new.clients.all kept.stands step.stands;
       sent = λ sent. sent_on (g.A.Arrivals.outgoing loop.connections).full (g.A.Arrivals.outgoing c.deliver.new.connections).full places loop.index
           c.copied-place.result loop.clients.all c.deliver.new.clients.all is within step.sent (kept.sent sent);
+      rest = rests_then c.args.clients.now.all loop.clients.all c.deliver.new.clients.all (g.A.Arrivals.outgoing c.args.connections.now).sent
+          (g.A.Arrivals.outgoing loop.connections).sent (g.A.Arrivals.outgoing c.deliver.new.connections).sent kept.rest step.rest;
       ready = λ calls h. step.ready calls (kept.ready calls h);
       endings = step.endings ∙ kept.endings;
       stirred = step.stirred ∙ kept.stirred;

@@ -1,14 +1,15 @@
-use Rattle.std.proofs.Common.{◌≡◌, ◌<◌, ℕ, List, [], ◌∷◌, length, rules, subst, sym}
+use Rattle.std.proofs.Common.{arith, ◌≡◌, ◌≤◌, ◌<◌, ℕ, List, [], ◌∷◌, length, rules, subst, sym}
 use Rattle.std.specs.Prelude.{◌==◌, not, slice_set}
 use Rattle.std.specs.List.{filter}
 use Rattle.std.proofs.lemmas.Fn.{filter_same}
 use Rattle.std.proofs.lemmas.Option.{slice_get_within}
 use Rattle.bank_server.specs.Clients.{ClientsOf, fresh_client}
-use Rattle.bank_clients.specs.History.{GoesOn}
-use Rattle.bank_clients.specs.Sessions.{AreListed, AreReady, AreSentBut, IsOverAt, SessionsOf, outside_of}
+use Rattle.bank_clients.specs.History.{GoesOn, IsOverAt, unread_by_all, unread_limit}
+use Rattle.bank_clients.specs.Sessions.{AreListed, AreReady, AreSentBut, SessionsOf, outside_of}
 use Rattle.bank_clients.proofs.Deliveries.{sent_without}
 use Rattle.bank_clients.proofs.Histories.{leaves_goes_on}
 use Rattle.bank_clients.proofs.Leaving.{listed_without}
+use Rattle.bank_clients.proofs.UnreadByAll.{few_without}
 use Rattle.bank_clients.proofs.sessions.Sessions.leave.Goals as goal
 
 pub returns-clause-left : goal.returns-clause-left
@@ -43,3 +44,12 @@ returns-clause-ready g c calls ready =
           (sent_without inside.clients.limits (g.A.Arrivals.outgoing old).full (g.A.Arrivals.outgoing new).full (g.A.Connections.writable_places old)
           (g.A.Connections.writable_places new) place inside.clients.all within c.leave.ensures.others before.sent);
     }
+
+pub invariant_of-self : goal.invariant_of-self
+invariant_of-self g c known =
+    let inside = c.self.inside in
+    let place = c.args.over.place in
+    let over = subst (λ (s : SessionsOf g.row.A.Denot). IsOverAt s.clients.all place c.args.over.ending) (sym c.self.view_is) c.requires in
+    let within : place < length inside.clients.all = slice_get_within inside.clients.all place over.0 over.1 in
+    subst (λ (s : ClientsOf). unread_by_all s.all ≤ unread_limit) (sym c.vacate.ensures.vacated)
+    (omega (arith, c.self.invariant known, few_without inside.clients.limits inside.clients.all place within))

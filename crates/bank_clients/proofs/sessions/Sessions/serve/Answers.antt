@@ -1,8 +1,8 @@
-use Rattle.std.proofs.Common.{◌≡◌, false, [], Ok, Err, length, subst, sym, ap, ◌∙◌}
+use Rattle.std.proofs.Common.{◌≡◌, ℕ, List, false, [], Ok, Err, length, subst, sym, ap, ◌∙◌}
 use Rattle.std.specs.Prelude.{Result, OnOk, is_err}
 use Rattle.std.proofs.lemmas.Bool.{false≢true}
 use Rattle.std.proofs.lemmas.Result.{err_from_is_err_and}
-use Rattle.bank_server.specs.Clients.{OutgoingOf}
+use Rattle.bank_server.specs.Clients.{AreCalmBut, OutgoingOf}
 use Rattle.bank_server.specs.Primary.{opening_rows_of}
 use Rattle.bank_server.specs.SessionFaults.{as_session, session_of_turn_fault}
 use Rattle.bank_server.proofs.boards.WholeReplies.{err_always}
@@ -14,6 +14,7 @@ use Rattle.bank_clients.proofs.Deliveries.{sent_among, sent_before_turn}
 use Rattle.bank_clients.proofs.Histories.{round_goes_on}
 use Rattle.bank_clients.proofs.Leaving.{ended_in_round, listed_behind}
 use Rattle.bank_clients.proofs.Unread.{unsent_behind}
+use Rattle.bank_clients.proofs.UnreadByAll.{few_behind}
 use Rattle.bank_clients.proofs.sessions.Sessions.serve.Goals as goal
 
 pub turn-requires : goal.turn-requires
@@ -107,3 +108,15 @@ returns-clause-served g c =
     inside.clients.all c.deliver_rest.new.clients.all c.turn.new.self.all last.clients.all
     c.deliver_rest.ensures.stands (ap (λ (o : OutgoingOf). o.sent) c.turn.ensures.leaves.outgoing) c.in_ok-turn.ensures.served
     c.deliver_new.ensures.stands)
+
+pub invariant_of-self-2 : goal.invariant_of-self-2
+invariant_of-self-2 g c known =
+    let sent = λ (a : g.row.A.Denot). (g.A.Arrivals.outgoing a).sent in
+    let inside = c.self.inside in
+    let rested = c.deliver_rest.new in
+    let turned = c.turn.new in
+    let last = c.deliver_new.new in
+    few_behind inside.may_exceed last.clients.stirred inside.clients.all rested.clients.all turned.self.all last.clients.all
+    (sent inside.connections) (sent rested.connections) (sent turned.arrivals) (sent last.connections) c.self.invariant c.deliver_rest.ensures.rest
+    (subst (λ (l : List ℕ). AreCalmBut l rested.clients.all turned.self.all) (sym c.deliver_new.ensures.stirred) c.in_ok-turn.ensures.leaves.calm)
+    c.deliver_new.ensures.rest (c.is_exceeded-self-inside.ensures.few known)
