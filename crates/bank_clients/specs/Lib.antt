@@ -1,4 +1,5 @@
 pub mod ClientErrors
 pub mod History
 pub mod Sessions
+pub mod Streams
 pub mod inner

@@ -1,5 +1,7 @@
 //! Clients who are served one after another.
-ghost use Rattle.std.specs.Prelude.{◌≤◌, [], length, None, true, IfSome};
+ghost use Rattle.std.specs.Prelude.{◌≡◌, ◌≤◌, [], length, take, None, true, IfNone, IfSome, IsSome, OnErr, OnOk};
+ghost use Rattle.std.specs.Io.KnownBytes.{Appends};
+ghost use Rattle.bank_clients.specs.inner.Streaming.{ReadsPiece, ReadsStream, WritesStream};
 
 use crate::client_errors::is_of_a_client;
 use crate::connections::Connections;
@@ -9,6 +11,7 @@ use crate::traffic::Traffic;
 use bank_server::{Arrival, Arrivals, AskCounts};
 use std::io;
 use std::io::{ErrorKind, Read, Write};
+use std::marker::Model;
 use std::net::{OpenListener, OpenStream};
 use std::sync::Wait;
 use std::time::{Clock, Duration, Instant};
@@ -20,14 +23,39 @@ const READS: u64 = 1_000_000_000;
 /// the one before was left. What a client sends is read to its end, and what it gets is written whole: each
 /// read and each write waits for it, as long as it may be silent. It is silent until a whole frame has come
 /// from it, or bytes went to it: one that sends less is ended before the next read, at the latest after twice
-/// the time. It isn't known what comes, or what goes.
+/// the time.
+///
+/// A contract sees the stream of the client who is there, if one is. A piece that arrives is read from the
+/// front of what remains in that stream, and what is sent is written there, as many bytes as are answered.
+/// No clause says which clients come, when reading or writing is given up, what is skipped of a client at
+/// fault, or that a read writes nothing and a write reads nothing. Whoever takes any connections doesn't
+/// know what comes here, or what goes.
 #[derive(Drop)]
-pub struct OneByOne<'a, H, L: OpenListener, N> {
+pub struct OneByOne<'a, H, L: OpenListener, N>
+where
+    L::Stream: Read + Write,
+{
     rt: &'a H,
     listener: L,
     patience: Option<Duration>,
     notes: N,
     client: Option<Guest<L::Stream>>,
+}
+
+impl<'a, H, L: OpenListener, N> Model for OneByOne<'a, H, L, N>
+where
+    L::Stream: Read + Write,
+{
+    ghost use Rattle.std.specs.Prelude.{Option};
+    ghost use Rattle.std.specs.Option.{option_map};
+    ghost use Rattle.bank_clients.specs.Streams.{StreamOf};
+
+    ghost Value = { Option StreamOf };
+
+    ghost view = { λ c. option_map (λ client. record {
+      remaining = L.Stream.remaining client.stream;
+      contents = L.Stream.contents client.stream;
+    }) c.client };
 }
 
 // The client who is served.
@@ -59,7 +87,9 @@ where
         listener: L,
         patience: Option<Duration>,
         notes: N,
-    ) -> OneByOne<'a, H, L, N> {
+    ) -> OneByOne<'a, H, L, N>
+        ensures { result ≡ None }
+    {
         OneByOne {
             rt,
             listener,
@@ -107,7 +137,9 @@ impl<T: Read + Write + OpenStream> Guest<T> {
     }
 
     // Whether it has been silent for too long. If the clock fails, the answer is yes.
-    fn is_silent<H: Clock>(&mut self, rt: &H) -> bool {
+    fn is_silent<H: Clock>(&mut self, rt: &H) -> bool
+        ensures { self.new.stream ≡ self.old.stream }
+    {
         let Some(patience) = self.patience else {
             return false;
         };
@@ -124,7 +156,8 @@ impl<T: Read + Write + OpenStream> Guest<T> {
     // Reads once, waiting for it: how many bytes, or `None` if the connection fails, or it has been silent for
     // too long.
     fn read_once<H: Clock>(&mut self, rt: &H, chunk: &mut [u8]) -> Option<usize>
-        ensures { IfSome result (λ count. count ≤ length chunk.new) }
+        ensures count { IfSome result (λ count. count ≤ length chunk.new) }
+        ensures read { ReadsPiece (T.remaining self.old.stream) (T.remaining self.new.stream) result chunk.new }
     {
         self.has_failed = self.has_failed || self.is_silent(rt);
         for _ in 0..u64::MAX {
@@ -147,7 +180,9 @@ impl<T: Read + Write + OpenStream> Guest<T> {
 
     // Writes these bytes, waiting for it, and answers how many were taken before the connection failed.
     fn write_whole(&mut self, bytes: &[u8]) -> usize
-        ensures { result ≤ length bytes.now }
+        ensures count { result ≤ length bytes.now }
+        ensures written { Appends (T.contents self.old.stream) (T.contents self.new.stream)
+            (take result bytes.now) }
     {
         let mut rest = bytes;
         for _ in 0..u64::MAX {
@@ -196,7 +231,13 @@ where
 
     ghost outgoing = { λ clients. record { sent = None; full = λ place. true } };
 
-    fn next(&mut self, chunk: &mut [u8]) -> Option<Arrival> {
+    fn next(&mut self, chunk: &mut [u8]) -> Option<Arrival>
+        ensures within { IfSome result (λ arrival. IfSome arrival.read (λ count. count ≤ length chunk.new)) }
+        ensures place { IfSome result (λ arrival. arrival.client ≡ 0) }
+        // What arrives is read from the client's stream, and else nothing is.
+        ensures read { IfSome result (λ arrival. ReadsStream self.old self.new arrival.read chunk.new) }
+        ensures unread { IfNone result (self.new ≡ self.old) }
+    {
         let client = self.client.as_mut()?;
         if client.has_ended && !client.has_failed {
             return None;
@@ -207,7 +248,9 @@ where
         })
     }
 
-    fn heard(&mut self, _client: usize) {
+    fn heard(&mut self, _client: usize)
+        ensures { self.new ≡ self.old }
+    {
         if let Some(client) = &mut self.client {
             client.silent_since = None;
         }
@@ -223,7 +266,11 @@ where
 {
     ghost writable_places = { λ clients. [] };
 
-    fn wait(&mut self) -> io::Result<()> {
+    fn wait(&mut self) -> io::Result<()>
+        ensures stays { IfSome self.old (λ stream. self.new ≡ self.old) }
+        ensures there { OnOk result (IsSome self.new) }
+        ensures fails { OnErr result (self.new ≡ self.old) }
+    {
         if self.client.is_none() {
             let stream = self.accept()?;
             self.client = Some(Guest::new(self.rt, stream, self.patience));
@@ -235,14 +282,19 @@ where
         &[]
     }
 
-    fn send(&mut self, _place: usize, bytes: &[u8]) -> usize {
+    fn send(&mut self, _place: usize, bytes: &[u8]) -> usize
+        ensures count { result ≤ length bytes.now }
+        ensures written { WritesStream self.old self.new (take result bytes.now) }
+    {
         match &mut self.client {
             Some(client) => client.write_whole(bytes),
             None => 0,
         }
     }
 
-    fn leave(&mut self, _place: usize, is_at_fault: bool, counts: AskCounts) {
+    fn leave(&mut self, _place: usize, is_at_fault: bool, counts: AskCounts)
+        ensures { self.new ≡ None }
+    {
         if let Some(client) = self.client.take() {
             let mut client = client;
             self.notes.note_session(counts, client.traffic(self.rt));
