@@ -81,17 +81,3 @@ line_at_fault (Play (schedule.Input line fault)) = Some line
 line_at_fault (Serve (serve.Run (Input line fault))) = Some line
 line_at_fault (Ask (ask.Line line fault)) = Some line
 line_at_fault other = None
-
--- a checkpoint is at fault, or a line of its opening; or a device failed, or memory was refused
-abbrev pub IsCheckpointProgramFault : ProgramFault → Type 0
-IsCheckpointProgramFault (Checkpoint fault) = Unit {0}
-IsCheckpointProgramFault (Run (Input line fault)) = Unit {0}
-IsCheckpointProgramFault (Run Device) = Unit {0}
-IsCheckpointProgramFault (Run OutOfMemory) = Unit {0}
-IsCheckpointProgramFault other = ⊥
-
--- asking failed, or a device
-abbrev pub IsAskProgramFault : ProgramFault → Type 0
-IsAskProgramFault (Ask fault) = Unit {0}
-IsAskProgramFault (Run Device) = Unit {0}
-IsAskProgramFault other = ⊥

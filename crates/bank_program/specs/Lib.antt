@@ -1,4 +1,9 @@
+pub mod CheckpointPrints
+pub mod CutLogs
 pub mod Faults
 pub mod LineNotes
+pub mod OpenedBanks
+pub mod PlannedClients
+pub mod StoreLocks
 pub mod StrictRuns
 pub mod inner

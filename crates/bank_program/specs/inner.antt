@@ -1,4 +1,3 @@
 pub mod CountSteps
 pub mod ListingFaults
-pub mod StepFaults
 pub mod WaitingText

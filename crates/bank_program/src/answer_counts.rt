@@ -41,7 +41,7 @@ impl AnswerCounts {
     }
 
     /// Tells on standard error how many lines were answered otherwise than by a reply, if some were.
-    pub(crate) fn print_to_stderr(&self, rt: &HostRuntime) {
+    pub fn print_to_stderr(&self, rt: &HostRuntime) {
         let (answers, log_full, mismatches) = (self.answers, self.log_full, self.mismatches);
         // If standard error fails, the answers are printed all the same.
         if log_full > 0 {

@@ -28,7 +28,7 @@ pub fn listen<N: Net>(
 
 /// Listens as [`listen`] does, for many clients at once: more of them may come before they are accepted,
 /// and no call waits for them.
-pub(crate) fn listen_for_many(
+pub fn listen_for_many(
     net: &impl Net,
     address: SocketAddr,
     trouble: &Trouble<'_>,

@@ -2,17 +2,20 @@
 use sb_log::LogFault;
 use std::{fmt, io};
 
+/// The file name of a log.
+pub const LOG: &str = "log";
+
 /// A fault of a file in a log's folder, with the system's words for it, if it has some.
 #[derive(Drop)]
-pub(crate) struct LogReport<'a> {
+pub struct LogReport<'a> {
     /// The folder, as it was given.
-    pub(crate) folder: &'a str,
+    pub folder: &'a str,
     /// The file's name.
-    pub(crate) name: &'a str,
+    pub name: &'a str,
     /// The fault.
-    pub(crate) fault: LogFault,
+    pub fault: LogFault,
     /// Why the system refused a call.
-    pub(crate) error: Option<io::Error>,
+    pub error: Option<io::Error>,
 }
 
 impl fmt::Display for LogReport<'_> {
@@ -35,9 +38,9 @@ impl fmt::Display for LogReport<'_> {
 
 /// What is told of a log's end that was cut off.
 #[derive(Drop)]
-pub(crate) struct CutReport {
+pub struct CutReport {
     /// How many bytes.
-    pub(crate) bytes: usize,
+    pub bytes: usize,
 }
 
 impl fmt::Display for CutReport {

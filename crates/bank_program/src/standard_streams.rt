@@ -35,7 +35,7 @@ const BAD_FILE: i32 = 9;
 ///
 /// A file that is opened takes the lowest number that is free. In the place of a standard stream that was
 /// closed, a log would get what is printed.
-pub(crate) fn are_open(rt: &HostRuntime, trouble: &Trouble<'_>) -> bool {
+pub fn are_open(rt: &HostRuntime, trouble: &Trouble<'_>) -> bool {
     match fs::open(rt, "/") {
         Ok(file) => {
             let lowest = file.as_raw_fd();

@@ -1,26 +1,27 @@
 //! The folder of node 0's checkpoint.
-ghost use Rattle.std.specs.Prelude.{IfErr};
-ghost use Rattle.bank_program.specs.inner.StepFaults.{IsLockFault};
+ghost use Rattle.std.specs.Prelude.{◌≡◌, None, IfErr, IfOk};
+ghost use Rattle.bank_program.specs.StoreLocks.{IsLockFault};
 
 use crate::device::Device;
 use crate::trouble::Trouble;
 use bank_service::ServeFault;
+use sb_checkpoint::{CheckpointStore, FileStore, FileWithSpare};
 use std::fs;
 use std::fs::{File, TryLockError};
 use std::path::PathBuf;
 
 /// The file name of node 0's checkpoint.
-pub(crate) const CHECKPOINT: &str = "node0.ckpt";
+pub const CHECKPOINT: &str = "node0.ckpt";
 
 /// The lock of the folder where a server keeps its checkpoint. Two servers would replace one another's.
 #[derive(Drop)]
-pub(crate) struct StoreLock {
+pub struct StoreLock {
     folder: Option<File>,
 }
 
 impl StoreLock {
     /// Nothing is locked.
-    pub(crate) fn new() -> StoreLock {
+    pub fn new() -> StoreLock {
         StoreLock { folder: None }
     }
 
@@ -30,7 +31,7 @@ impl StoreLock {
     /// Fails with
     /// - [`ServeFault::StoreInUse`] if another process has locked it,
     /// - [`ServeFault::Store`] if the system can't lock it, whose error is noted.
-    pub(crate) fn lock<'d>(
+    pub fn lock<'d>(
         &mut self,
         rt: &HostRuntime,
         folder: &'d str,
@@ -54,9 +55,25 @@ impl StoreLock {
     }
 }
 
+/// A store in a file, which can be written.
+///
+/// Fails with [`ServeFault::Store`] if it can't.
+pub fn try_store<P: FileWithSpare>(file: P) -> Result<FileStore<P>, ServeFault>
+    // The store was tried: in an honest folder no spare is left, and the checkpoint stays.
+    ensures tried { IfOk result (λ store. P.IsHonest file → P.spare store.file ≡ None) }
+    ensures unchanged { IfOk result (λ store. P.IsHonest file → P.content store.file ≡ P.content file) }
+    ensures fault { IfErr result (λ fault. fault ≡ ServeFault.Store) }
+{
+    let mut store = FileStore::new(file);
+    match store.probe() {
+        Ok(()) => Ok(store),
+        Err(_) => Err(ServeFault::Store),
+    }
+}
+
 /// Tells on standard error of a checkpoint in a bank's folder that the bank hasn't put there, since it begins:
 /// it will be replaced.
-pub(crate) fn tell_earlier(rt: &HostRuntime, folder: &str) {
+pub fn tell_earlier(rt: &HostRuntime, folder: &str) {
     if has_checkpoint(rt, folder) {
         let name = CHECKPOINT;
         // If standard error fails, the bank is served all the same.

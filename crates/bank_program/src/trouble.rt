@@ -38,7 +38,7 @@ impl<'a> Trouble<'a> {
     }
 
     /// What was done with a device. If that failed, the error is noted.
-    pub(crate) fn noted<V>(&self, device: Device<'a>, done: io::Result<V>) -> io::Result<V>
+    pub fn noted<V>(&self, device: Device<'a>, done: io::Result<V>) -> io::Result<V>
         ensures { result ≡ done }
     {
         if let Err(error) = &done {

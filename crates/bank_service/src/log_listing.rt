@@ -11,6 +11,7 @@ ghost use Rattle.sb_calls.specs.Ask.{ask_line};
 ghost use Rattle.sb_calls.specs.Call.{call_line};
 ghost use Rattle.sb_calls.specs.declared.ask.Key.{Key as AnyKey};
 ghost use Rattle.sb_calls.specs.declared.call.Call.{Call as AnyCall};
+ghost use Rattle.sb_log.specs.LogFiles.{Stays};
 ghost use Rattle.sb_ask_log.specs.LogFile.{log_bytes};
 ghost use Rattle.sb_ask_log.specs.Recovery.{ReadsAskLog};
 ghost use Rattle.bank_service.specs.ServeOutput.{log_lines};
@@ -51,7 +52,7 @@ pub fn list_log<F: LogFile, W: Write>(
     listing: Listing,
     writer: &mut W,
 ) -> Result<(), ListFault>
-    ensures content { F.IsHonest file.old → F.content file.new ≡ F.content file.old }
+    ensures file { Stays F.IsHonest F.content F.synced file.old file.new }
     ensures listed { F.IsHonest file.old → OnOk result ((text : List ℕ) × (log : List (AnyKey × AnyCall)) ×
         (rest : List ℕ)
         × ReadsAskLog (F.content file.old) text log rest × (listed : List ℕ) × IsListing listing text log listed

@@ -3,12 +3,21 @@
 
 ghost use Rattle.program_words.specs.Words.{InRange};
 
+mod asking;
+mod logs;
+mod running;
+mod serving;
+
+use asking::ask;
 use bank_program::{
-    Device, ProgramFault, RunFault, Trouble, ask_program, checkpoint_program, input, log_program,
-    output, run_program, run_schedule, serve_program, tell,
+    Device, ProgramFault, RunFault, SystemFiles, Trouble, checkpoint_program, input, output,
+    run_schedule, tell,
 };
 use clap::error::ErrorKind;
-use program_words::{LogWords, ServeWords, Words, read_words, refuse_bytes};
+use logs::list_or_cut;
+use program_words::{LogWords, Words, read_words, refuse_bytes};
+use running::run;
+use serving::serve;
 use std::net::Net;
 use std::process::ExitCode;
 use std::sync::Wait;
@@ -71,23 +80,19 @@ fn obey<'d, H: Threads + Wait + Clock + Sync + Net + Copy + Send + 'static>(
     requires { InRange words }
 {
     match words {
-        Words::Run(words) => run_program(rt, threads, words, trouble)?,
+        Words::Run(words) => run(rt, threads, words, trouble)?,
         Words::Play => run_schedule(
             rt.alloc(),
             &mut input(rt, trouble),
             &mut output(rt, trouble),
         )?,
-        Words::Serve(
-            ServeWords {
-                port,
-                plan,
-                store,
-                log,
-            },
-        ) => serve_program(rt, threads, port, store, log, plan, trouble)?,
-        Words::Log(LogWords { folder, action }) => log_program(rt, folder, action, trouble)?,
-        Words::Ask(words) => ask_program(rt, threads, words, trouble)?,
-        Words::Checkpoint(words) => checkpoint_program(rt, words, trouble)?,
+        Words::Serve(words) => serve(rt, threads, words, trouble)?,
+        Words::Log(LogWords { folder, action }) => list_or_cut(rt, folder, action, trouble)?,
+        Words::Ask(words) => ask(rt, threads, words, trouble)?,
+        Words::Checkpoint(words) => {
+            let files = SystemFiles { rt: *rt, trouble };
+            checkpoint_program(rt.alloc(), &files, words, &mut output(rt, trouble))?
+        }
     }
     Ok(0)
 }

@@ -1,15 +1,9 @@
--- The faults of the single steps of the program that serves.
+-- Why the bank isn't opened that is to be served.
 use Rattle.std.specs.Prelude.{◌≡◌, Bool, true}
 use Rattle.bank_server.specs.declared.fault.RunFault.TheVariants.{OutOfMemory}
-use Rattle.bank_service.specs.ServeFaults.{IsBankFault, IsOpeningRunFault}
+use Rattle.bank_service.specs.ServeFaults.{IsBankFault}
 use Rattle.bank_service.specs.declared.serve_fault.ServeFault.{ServeFault}
 use Rattle.bank_service.specs.declared.serve_fault.ServeFault.TheVariants.{Run, Store, StoreInUse}
-
--- the store's folder is another server's, or can't be locked
-abbrev pub IsLockFault : ServeFault → Type 0
-IsLockFault Store = Unit {0}
-IsLockFault StoreInUse = Unit {0}
-IsLockFault other = ⊥
 
 -- memory was refused; or the bank saves, and its store takes nothing or is another server's
 abbrev pub IsStoreFault : Bool → ServeFault → Type 0
@@ -17,11 +11,6 @@ IsStoreFault saves (Run fault) = fault ≡ OutOfMemory
 IsStoreFault saves Store = saves ≡ true
 IsStoreFault saves StoreInUse = saves ≡ true
 IsStoreFault saves other = ⊥
-
--- a line of the opening is at fault, a device failed, or memory was refused
-abbrev pub IsOpeningFault : ServeFault → Type 0
-IsOpeningFault (Run fault) = IsOpeningRunFault fault
-IsOpeningFault other = ⊥
 
 -- a bank isn't found in its log, or the input can't be read; or the bank saves, and its store takes nothing or is
 -- another server's

@@ -1,0 +1,30 @@
+-- Cutting a log behind its last whole record.
+use Rattle.std.specs.Prelude.{◌≡◌, ◌≢◌, ◌⊎◌, ℕ, ◌+◌, ◌<◌, Option, List, [], ◌++◌, length}
+use Rattle.std.specs.Io.KnownBytes.{Appends}
+use Rattle.sb_calls.specs.declared.ask.Key.{Key}
+use Rattle.sb_calls.specs.declared.call.Call.{Call}
+use Rattle.sb_ask_log.specs.Recovery.{IsDamagedAskLog, ReadsAskLog}
+use Rattle.bank_service.specs.LogListing.{IsListing}
+use Rattle.program_words.specs.declared.listing.Listing.TheVariants.{Check}
+
+-- the bytes are the longest log that they begin with, and then this rest: a torn one, or damage
+abbrev pub IsBehindLog : List ℕ → List ℕ → List ℕ → Type 0
+IsBehindLog bytes records rest = (bytes ≡ records ++ rest)
+    × (((text : List ℕ) × (log : List (Key × Call)) × ReadsAskLog bytes text log rest × (text ≢ []))
+    ⊎ IsDamagedAskLog bytes (length records) (length rest))
+
+-- the log that these bytes begin with ends at this byte, and so many follow
+abbrev pub EndsRecordsAt : List ℕ → ℕ → ℕ → Type 0
+EndsRecordsAt bytes byte behind =
+    ((text : List ℕ) × (log : List (Key × Call)) × (rest : List ℕ) × ReadsAskLog bytes text log rest × (text ≢ [])
+    × (behind ≡ length rest))
+    ⊎ IsDamagedAskLog bytes byte behind
+
+-- what follows the log was cut off, and went to the end of another file, if it is known what that has
+abbrev pub CutsOff : List ℕ → List ℕ → Option (List ℕ) → Option (List ℕ) → Type 0
+CutsOff old new rest_old rest_new = (rest : List ℕ) × IsBehindLog old new rest × Appends rest_old rest_new rest
+
+-- the line of the log of these bytes was printed
+abbrev pub ListsCheck : List ℕ → Option (List ℕ) → Option (List ℕ) → Type 0
+ListsCheck content old new = (text : List ℕ) × (log : List (Key × Call)) × (rest : List ℕ)
+    × ReadsAskLog content text log rest × (listed : List ℕ) × IsListing Check text log listed × Appends old new listed
