@@ -8,7 +8,8 @@ use Rattle.std.proofs.lemmas.List.{take-append-drop}
 use Rattle.sb_log.specs.LogFiles.{IsCutTo}
 use Rattle.sb_log.specs.Records.{records}
 use Rattle.sb_ask_log.specs.Recovery.{IsDamagedAskLog, ReadsAskLog}
-use Rattle.bank_program.specs.CutLogs.{CutsOff, EndsRecordsAt, IsBehindLog}
+use Rattle.bank_program.specs.CutLogs.{CutsOff, IsBehindLog}
+use Rattle.bank_program.specs.inner.LogEnds.{EndsRecordsAt}
 
 -- a list is parted behind so many of its elements as it is anyway
 parted : (at : ℕ) (xs front rest : List ℕ) → xs ≡ front ++ rest → at ≡ length front → (take at xs ≡ front) × (drop at xs ≡ rest)

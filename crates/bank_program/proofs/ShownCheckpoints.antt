@@ -19,7 +19,8 @@ if_known None read P same holds = tt
 if_known (Some x) read P same holds = subst P same holds
 
 -- why nothing is shown by the names of an opening that was read
-pub names_fault : (content : List ℕ → Option (List ℕ)) (file : List ℕ) (name : Bor (List ℕ)) (bytes names : List ℕ) (opening : AnyOpening) (fault : CheckpointListFault)
+pub names_fault : (content : List ℕ → Option (List ℕ)) (file : List ℕ) (name : Bor (List ℕ)) (bytes names : List ℕ) (opening : AnyOpening)
+    (fault : CheckpointListFault)
     → IfSome (content file) (λ x. bytes ≡ x) → IfSome (content name.now) (λ x. names ≡ x) → IsOpeningOf (whole_opening_of names) opening
     → IsCheckpointListFault bytes (opening_origin opening.columns) fault → IsShowFault content file (view.Opening name) (fault_of_listing fault)
 names_fault content file name bytes names opening (Checkpoint fault) has_bytes has_names read is =

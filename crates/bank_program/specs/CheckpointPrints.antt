@@ -5,12 +5,19 @@ use Rattle.sb_checkpoint.specs.Reading.{first_fault}
 use Rattle.checkpoint_text.specs.Listing.{IsCheckpointListing, IsOpeningListing}
 use Rattle.checkpoint_text.specs.Origins.{opening_origin, stated_origin}
 use Rattle.checkpoint_text.specs.declared.listing.CheckpointListing.TheVariants.{Balances, Check}
+use Rattle.bank_server.specs.declared.fault.RunFault.{RunFault}
 use Rattle.bank_server.specs.declared.fault.RunFault.TheVariants.{Input, Device, OutOfMemory}
 use Rattle.bank_service.specs.Opening.{IsOpeningOf, whole_opening_of}
 use Rattle.bank_program.specs.declared.fault.ProgramFault.{ProgramFault}
 use Rattle.bank_program.specs.declared.fault.ProgramFault.TheVariants.{Run, Checkpoint}
 use Rattle.program_words.specs.declared.words.checkpoint.CheckpointView.{CheckpointView}
 use Rattle.program_words.specs.declared.words.checkpoint.CheckpointView.TheVariants as view
+
+-- a device failed, or memory was refused
+abbrev pub IsReadingFault : RunFault → Type 0
+IsReadingFault Device = Unit {0}
+IsReadingFault OutOfMemory = Unit {0}
+IsReadingFault other = ⊥
 
 -- this text is what is to be shown of a checkpoint in a file, if it is known what the files have: its listing, or its
 -- rows by the names of the opening in another file

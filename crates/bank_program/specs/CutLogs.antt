@@ -1,5 +1,5 @@
 -- Cutting a log behind its last whole record.
-use Rattle.std.specs.Prelude.{◌≡◌, ◌≢◌, ◌⊎◌, ℕ, ◌+◌, ◌<◌, Option, List, [], ◌++◌, length}
+use Rattle.std.specs.Prelude.{◌≡◌, ◌≢◌, ◌⊎◌, ℕ, Option, List, [], ◌++◌, length}
 use Rattle.std.specs.Io.KnownBytes.{Appends}
 use Rattle.sb_calls.specs.declared.ask.Key.{Key}
 use Rattle.sb_calls.specs.declared.call.Call.{Call}
@@ -12,13 +12,6 @@ abbrev pub IsBehindLog : List ℕ → List ℕ → List ℕ → Type 0
 IsBehindLog bytes records rest = (bytes ≡ records ++ rest)
     × (((text : List ℕ) × (log : List (Key × Call)) × ReadsAskLog bytes text log rest × (text ≢ []))
     ⊎ IsDamagedAskLog bytes (length records) (length rest))
-
--- the log that these bytes begin with ends at this byte, and so many follow
-abbrev pub EndsRecordsAt : List ℕ → ℕ → ℕ → Type 0
-EndsRecordsAt bytes byte behind =
-    ((text : List ℕ) × (log : List (Key × Call)) × (rest : List ℕ) × ReadsAskLog bytes text log rest × (text ≢ [])
-    × (behind ≡ length rest))
-    ⊎ IsDamagedAskLog bytes byte behind
 
 -- what follows the log was cut off, and went to the end of another file, if it is known what that has
 abbrev pub CutsOff : List ℕ → List ℕ → Option (List ℕ) → Option (List ℕ) → Type 0

@@ -20,10 +20,10 @@ IsOpeningFault input (Run Device) = Unit {0}
 IsOpeningFault input (Run OutOfMemory) = Unit {0}
 IsOpeningFault input other = ⊥
 
--- a bank is opened on a file: what is found there with this input, if the file is honest, is its log, whose opening node 0
--- is at
-pub record OpensOnLog {F S : Type 0} (IsHonest : F → Type 0) (content : F → List ℕ) (file : F) (input : List ℕ) (store : S)
-    (bank : PrimaryOf S (AskLogOf F)) : Type 0 where
+-- a bank is opened on a file: what is found there with this input, if the file is honest, is its log, whose opening
+-- node 0 is at
+pub record OpensOnLog {F S : Type 0} (IsHonest : F → Type 0) (content : F → List ℕ) (file : F) (input : List ℕ)
+    (store : S) (bank : PrimaryOf S (AskLogOf F)) : Type 0 where
   pub text : List ℕ
   pub log : List (Key × Call)
   pub cut : ℕ

@@ -1,3 +1,4 @@
 pub mod CountSteps
 pub mod ListingFaults
+pub mod LogEnds
 pub mod WaitingText

@@ -46,7 +46,7 @@ pub use program_checkpoint::checkpoint_program;
 pub use program_run::run_program;
 pub use queued_output::QueuedOutput;
 pub use report::{Report, told};
-pub use serving::{serve_bank, serve_queued};
+pub use serving::{serve_bank, serve_queued, serve_to_end};
 pub use session_note::SessionNote;
 pub use session_printer::SessionPrinter;
 pub use standard_streams::{are_open, input, output};

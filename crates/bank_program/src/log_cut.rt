@@ -2,7 +2,8 @@
 ghost use Rattle.std.specs.Prelude.{◌≡◌, ◌⊎◌, [], drop, length, take, IfOk, IsFalse, OnOk};
 ghost use Rattle.std.specs.Io.KnownBytes.{Appends};
 ghost use Rattle.sb_log.specs.LogFiles.{Stays};
-ghost use Rattle.bank_program.specs.CutLogs.{CutsOff, EndsRecordsAt, ListsCheck};
+ghost use Rattle.bank_program.specs.CutLogs.{CutsOff, ListsCheck};
+ghost use Rattle.bank_program.specs.inner.LogEnds.{EndsRecordsAt};
 
 use crate::log_rest::RestFile;
 use bank_service::{ListFault, list_log};

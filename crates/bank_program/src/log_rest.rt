@@ -70,7 +70,7 @@ impl<'a> SystemRest<'a> {
     }
 
     // What was done. If that failed, the error is noted.
-    fn noted<V>(&self, done: io::Result<V>) -> io::Result<V>
+    fn with_reason<V>(&self, done: io::Result<V>) -> io::Result<V>
         ensures { result ≡ done }
     {
         if let Err(error) = &done {
@@ -83,7 +83,7 @@ impl<'a> SystemRest<'a> {
 impl Write for SystemRest<'_> {
     fn write(&mut self, buf: &[u8]) -> io::Result<usize> {
         let done = self.write_made(buf);
-        self.noted(done)
+        self.with_reason(done)
     }
 
     fn flush(&mut self) -> io::Result<()> {
@@ -94,6 +94,6 @@ impl Write for SystemRest<'_> {
 impl RestFile for SystemRest<'_> {
     fn sync(&mut self) -> io::Result<()> {
         let done = self.sync_made();
-        self.noted(done)
+        self.with_reason(done)
     }
 }

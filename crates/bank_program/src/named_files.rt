@@ -1,6 +1,6 @@
 //! Files that are read by their names.
 ghost use Rattle.std.specs.Prelude.{◌≡◌, ℕ, List, None, Option, IfErr, IfOk, IfSome};
-ghost use Rattle.bank_service.specs.inner.StepFaults.{IsPrintRunFault};
+ghost use Rattle.bank_program.specs.CheckpointPrints.{IsReadingFault};
 
 use crate::device::Device;
 use crate::trouble::Trouble;
@@ -18,7 +18,7 @@ pub trait NamedFiles<'d> {
     /// Fails if the file can't be read, or memory is refused.
     fn read_file(&self, name: &'d str) -> Result<Vec<u8>, RunFault>
         ensures read { IfOk result (λ bytes. IfSome (content self.now name.now) (λ known. bytes.items ≡ known)) }
-        ensures fault { IfErr result IsPrintRunFault };
+        ensures fault { IfErr result IsReadingFault };
 }
 
 /// The files of the system, whose errors are noted. It isn't known what they have.

@@ -8,8 +8,6 @@ use Rattle.sb_log.specs.declared.log_fault.LogFault.TheVariants as log
 use Rattle.sb_ask_log.specs.Recovery.{IsReadFault, ReadsAskLog}
 use Rattle.bank_service.specs.declared.list_fault.ListFault.{ListFault}
 use Rattle.bank_service.specs.declared.list_fault.ListFault.TheVariants.{Log, NoLog, Rest, Device, OutOfMemory}
-use Rattle.program_words.specs.declared.words.log.LogAction.{LogAction}
-use Rattle.program_words.specs.declared.words.log.LogAction.TheVariants as action
 
 -- the file is damaged or can't be read, or has no whole first record; or a write failed, or memory was refused
 abbrev pub IsListFault : List ℕ → ListFault → Type 0
@@ -23,11 +21,6 @@ IsListFault content OutOfMemory = Unit {0}
 abbrev pub IsListingFault : ListFault → Type 0
 IsListingFault Rest = ⊥
 IsListingFault other = Unit {0}
-
--- the same for what is done with a log
-abbrev pub IsLogProgramFault : LogAction → ListFault → Type 0
-IsLogProgramFault (action.List listing) fault = IsListingFault fault
-IsLogProgramFault action.Cut fault = Unit {0}
 
 -- unless a write failed, nothing was written
 abbrev pub LeavesListing : ListFault → Option (List ℕ) → Option (List ℕ) → Type 0

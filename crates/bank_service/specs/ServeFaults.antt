@@ -1,11 +1,10 @@
 -- What a fault of serving a bank means.
 use Rattle.std.specs.Prelude.{◌≡◌, ℕ, Bool, true}
-use Rattle.bank_server.specs.Faults.{IsFollower, LosesWorkers, StraysAmong}
+use Rattle.bank_server.specs.Faults.{IsFollower}
 use Rattle.bank_server.specs.declared.fault.RunFault.{RunFault}
 use Rattle.bank_server.specs.declared.fault.RunFault.TheVariants.{Input, Strayed, CrewGone, Device}
 use Rattle.bank_service.specs.declared.serve_fault.ServeFault.{ServeFault}
-use Rattle.bank_service.specs.declared.serve_fault.ServeFault.TheVariants.{Run, ReadBack, Store, StoreInUse, PortTaken, Log, AnotherOpening}
-use Rattle.program_words.specs.declared.plan.Plan.{Plan}
+use Rattle.bank_service.specs.declared.serve_fault.ServeFault.TheVariants.{Run, ReadBack, PortTaken, Log, AnotherOpening}
 
 -- a device failed
 abbrev pub IsDeviceFault : RunFault → Type 0
@@ -43,18 +42,6 @@ IsServingRunFault nodes MayBeGone other = IsFinishRunFault MayBeGone other
 abbrev pub IsServingFault : ℕ → Type 0 → Bool → Bool → ServeFault → Type 0
 IsServingFault nodes MayBeGone saves fails (Run fault) = IsServingRunFault nodes MayBeGone fault
 IsServingFault nodes MayBeGone saves fails other = IsFinishFault MayBeGone saves fails other
-
--- what may end the program that serves by this plan: what may end serving the bank, or a line of the
--- opening is at fault, or the bank saves, and its store takes nothing or is another server's, or this port
--- is taken, or there is a log, and it has another opening
-abbrev pub IsProgramFault : ℕ → Plan → Bool → ServeFault → Type 0
-IsProgramFault port plan logs (Run fault) = StraysAmong plan.nodes fault × LosesWorkers plan.workers fault
-IsProgramFault port plan logs ReadBack = plan.saves ≡ true
-IsProgramFault port plan logs Store = plan.saves ≡ true
-IsProgramFault port plan logs StoreInUse = plan.saves ≡ true
-IsProgramFault port plan logs (PortTaken taken) = taken ≡ port
-IsProgramFault port plan logs (Log fault) = logs ≡ true
-IsProgramFault port plan logs AnotherOpening = logs ≡ true
 
 -- a line of the opening is at fault, a device failed, or memory was refused
 abbrev pub IsOpeningRunFault : RunFault → Type 0

@@ -2,10 +2,10 @@
 ghost use Rattle.std.specs.Prelude.{◌≡◌, Some, [], false, length, map};
 
 use crate::served::{ASKED, DEPOSIT, GARBAGE, OPENING, TOLD};
-use crate::serving::{PLAN, bank_of, server_over};
+use crate::serving::{PLAN, bank_of};
 use bank_clients::Connections;
+use bank_program::serve_bank;
 use bank_server::{Arrival, Arrivals, AskCounts};
-use bank_service::serve;
 use program_words::Plan;
 use std::alloc::Global;
 use std::collections::VecDeque;
@@ -98,11 +98,12 @@ fn each_client_gets_its_outcomes(rt: HostRuntime) {
     };
     let plan = Plan {
         sessions: 3,
+        clients: Some(2),
         ..PLAN
     };
     let bank = bank_of(&rt, alloc, OPENING);
-    let server = server_over(&rt, alloc, known, 2, bank, plan, Vec::new(alloc));
-    let served = serve(&rt, Box::into_inner(server)).expect(&rt, "served");
+    let served = serve_bank(&rt, alloc, 4000, known, bank, plan, Vec::new(alloc));
+    let served = served.expect(&rt, "served");
     let sent = &served.sessions.connections().sent;
     assert!(&rt; sent_to(&rt, alloc, 0, sent).is_empty());
     assert!(&rt; sent_to(&rt, alloc, 1, sent).as_slice() == TOLD);

@@ -23,6 +23,8 @@ mod notes;
 #[cfg(test)]
 mod openings;
 #[cfg(test)]
+mod programs;
+#[cfg(test)]
 mod queues;
 #[cfg(test)]
 mod reports;

@@ -1,12 +1,17 @@
-//! Banks on a log, and what is listed of it.
+//! Banks on a log, what is listed of it, and what is cut off.
+ghost use Rattle.std.specs.Prelude.{Some};
+
 use crate::clients::{Client, Transcript, plain};
 use crate::served::{ASKED, GARBAGE, OPENING, TOLD};
 use crate::serving::{PLAN, server_to};
-use bank_service::{ListFault, ServeFault, find_bank, list_log, open_on_file, serve};
+use bank_program::{RestFile, cut_log, open_bank_on_log};
+use bank_service::{ListFault, ServeFault, find_bank, list_log, serve};
 use program_words::{Listing, Plan};
 use sb_checkpoint::MemoryStore;
 use sb_log::{LogFile, MemoryFile};
 use std::alloc::Global;
+use std::io;
+use std::io::{ErrorKind, Write};
 use std::process::Abort;
 use std::sync::Wait;
 use std::thread::Threads;
@@ -37,10 +42,9 @@ fn serve_on(
     printed: &[&str],
 ) -> Vec<u8> {
     let all = Transcript::new(alloc);
-    let mut file = file;
-    let found = find_bank(alloc, &mut file, input).expect(rt, "a bank's log");
-    let bank = open_on_file(alloc, file, found, MemoryStore::new(alloc)).expect(rt, "a bank");
-    let bank = Box::new(alloc, bank).expect(rt, "a box");
+    let (store, mut notes) = (MemoryStore::new(alloc), Vec::new(alloc));
+    let bank = open_bank_on_log(alloc, file, input, store, &mut notes).expect(rt, "a bank");
+    assert!(rt; notes.is_empty(), "nothing was cut off");
     let mut written: Vec<u8> = Vec::new(alloc);
     let plan = Plan {
         sessions: clients.len(),
@@ -156,4 +160,88 @@ fn what_is_listed_of_a_log(rt: HostRuntime) {
         assert!(rt; done == Err(ListFault::NoLog));
         assert!(rt; written.is_empty());
     }
+}
+
+// What was cut off a log, how often it was synced, and whether writing fails.
+#[derive(Drop)]
+struct Rest {
+    bytes: Vec<u8>,
+    syncs: usize,
+    fails: bool,
+}
+
+impl Write for Rest {
+    ghost contents = { λ rest. Some rest.bytes.items };
+
+    fn write(&mut self, buf: &[u8]) -> io::Result<usize> {
+        if self.fails {
+            return Err(io::Error::from(ErrorKind::Other));
+        }
+        self.bytes.write(buf)
+    }
+
+    fn flush(&mut self) -> io::Result<()> {
+        Ok(())
+    }
+}
+
+impl RestFile for Rest {
+    fn sync(&mut self) -> io::Result<()> {
+        self.syncs = self.syncs.saturating_add(1);
+        Ok(())
+    }
+}
+
+// Cuts a log with this behind its records: how that ends, what the file has then, the rest, and what is printed.
+fn cut(
+    rt: &impl Abort,
+    alloc: Global,
+    log: &[u8],
+    behind: &[u8],
+    fails: bool,
+) -> (Result<(), ListFault>, MemoryFile, Rest, Vec<u8>) {
+    let mut file = file_of(rt, alloc, log);
+    file.append(behind).expect(rt, "memory");
+    let mut printed = Vec::new(alloc);
+    let mut rest = Rest {
+        bytes: Vec::new(alloc),
+        syncs: 0,
+        fails,
+    };
+    let done = cut_log(alloc, &mut file, &mut rest, &mut printed);
+    (done, file, rest, printed)
+}
+
+#[test]
+fn what_is_cut_off_a_log(rt: HostRuntime) {
+    let alloc = rt.alloc();
+    let bytes = kept(&rt, alloc);
+    let long = vec![in alloc; 1u8; 70_000].expect(&rt, "memory");
+    for behind in [
+        b"".as_slice(),
+        &bytes[..8],
+        b"damage that is no record",
+        &long,
+    ] {
+        let (done, file, rest, printed) = cut(&rt, alloc, &bytes, behind, false);
+        assert!(rt; done.is_ok());
+        assert!(rt; file.bytes() == bytes.as_slice(), "the log stays");
+        assert!(rt; rest.bytes.as_slice() == behind, "what was behind it");
+        assert!(rt; rest.syncs == usize::from(!behind.is_empty()));
+        assert!(rt; printed.as_slice() == BOTH.as_bytes());
+    }
+}
+
+#[test]
+fn nothing_is_cut_off_that_is_not_moved(rt: HostRuntime) {
+    let alloc = rt.alloc();
+    let bytes = kept(&rt, alloc);
+    let (done, file, _, printed) = cut(&rt, alloc, &bytes, b"rest", true);
+    assert!(rt; done == Err(ListFault::Rest));
+    assert!(rt; file.bytes().strip_prefix(bytes.as_slice()) == Some(b"rest".as_slice()));
+    assert!(rt; printed.is_empty());
+    // Less than the first record is no log.
+    let (done, file, rest, printed) = cut(&rt, alloc, &bytes[..60], b"", false);
+    assert!(rt; done == Err(ListFault::NoLog));
+    assert!(rt; file.bytes() == &bytes[..60] && rest.bytes.is_empty() && printed.is_empty());
 }

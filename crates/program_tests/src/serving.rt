@@ -6,12 +6,12 @@ ghost use Rattle.bank_server.specs.Execution.{HasNoEntries};
 
 use crate::clients::{Client, Notes, TestListener, Transcript};
 use bank_clients::{Connections, OneByOne, Sessions};
+use bank_program::{open_bank, read_opening};
 use bank_server::{ClientLimits, Primary};
 use bank_service::Server;
 use program_words::Plan;
 use sb_ask_log::Keeper;
 use sb_checkpoint::{CheckpointStore, MemoryStore};
-use sb_rows::read_opening;
 use std::alloc::Global;
 use std::cell::Cell;
 use std::net::{IpAddr, Ipv4Addr};
@@ -52,9 +52,9 @@ pub(crate) fn bank_with<S: CheckpointStore>(
     ensures log { result.value.log ≡ [] }
     ensures opened { HasNoEntries result.value.node.board }
 {
-    let opening = read_opening(alloc, opening).expect(rt, "an opening");
-    let bank = Primary::open(alloc, opening, store).expect(rt, "a bank");
-    Box::new(alloc, bank).expect(rt, "a box")
+    let mut text = opening;
+    let opening = read_opening(alloc, &mut text).expect(rt, "an opening");
+    open_bank(alloc, opening, store).expect(rt, "a bank")
 }
 
 /// A server of this bank by this plan over connections that have this many places. It prints at port 4000.

@@ -1,1 +1,1 @@
-pub mod OpeningFaults
+pub mod inner

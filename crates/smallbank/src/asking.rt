@@ -1,6 +1,8 @@
 //! Asking a served bank the calls of standard input.
 use ask_client::{AskPlan, SocketDialer, ask_all};
-use bank_program::{AskWatch, Device, ProgramFault, RunFault, Trouble, Watch, are_open, input, output};
+use bank_program::{
+    AskWatch, Device, ProgramFault, RunFault, Trouble, Watch, are_open, input, output,
+};
 use program_words::{AskWords, here};
 use std::io;
 use std::net::Net;
@@ -13,7 +15,7 @@ use std::time::Clock;
 /// connection is noted.
 ///
 /// A connection would take the place of a standard stream that is closed, so all of them must be open.
-pub(crate) fn ask<H: Net + Clock>(
+pub(crate) fn obey_ask<H: Net + Clock>(
     rt: &HostRuntime,
     net: &H,
     words: AskWords,

@@ -1,28 +1,27 @@
 //! Listing a log in a folder of the system, or cutting it.
 ghost use Rattle.std.specs.Prelude.{IfErr};
-ghost use Rattle.bank_service.specs.ListFaults.{IsListingFault, IsLogProgramFault};
+ghost use Rattle.bank_service.specs.ListFaults.{IsListingFault};
+ghost use Rattle.smallbank.specs.inner.LogFaults.{IsFaultOfAction};
 
-use bank_program::{
-    LOG, LogReport, REST, SystemRest, Trouble, are_open, cut_log, output,
-};
+use bank_program::{LOG, LogReport, REST, SystemRest, Trouble, are_open, cut_log, output};
 use bank_service::{ListFault, list_log};
 use program_words::{Listing, LogAction};
 use sb_log::{LogFault, Reason, SystemFile};
 
 /// Lists the log in a folder, or cuts it. A fault of a file is told on standard error, and an error of a
 /// standard stream is noted.
-pub(crate) fn list_or_cut(
+pub(crate) fn obey_log(
     rt: &HostRuntime,
     folder: &str,
     action: LogAction,
     trouble: &Trouble<'_>,
 ) -> Result<(), ListFault>
-    ensures fault { IfErr result (IsLogProgramFault action) }
+    ensures fault { IfErr result (IsFaultOfAction action) }
 {
     let reason = Reason::new();
     let done = match action {
         LogAction::List(listing) => list(rt, folder, listing, &reason, trouble),
-        LogAction::Cut => cut(rt, folder, &reason, trouble),
+        LogAction::Cut => cut_end(rt, folder, &reason, trouble),
     };
     let told = match done {
         Err(ListFault::Log(fault)) => Some((LOG, fault)),
@@ -59,7 +58,7 @@ fn list(
 
 // Cuts the log in a folder. A file would take the place of a standard stream that is closed, so all of them
 // must be open.
-fn cut(
+fn cut_end(
     rt: &HostRuntime,
     folder: &str,
     reason: &Reason,

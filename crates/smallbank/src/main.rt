@@ -8,16 +8,16 @@ mod logs;
 mod running;
 mod serving;
 
-use asking::ask;
+use asking::obey_ask;
 use bank_program::{
     Device, ProgramFault, RunFault, SystemFiles, Trouble, checkpoint_program, input, output,
     run_schedule, tell,
 };
 use clap::error::ErrorKind;
-use logs::list_or_cut;
+use logs::obey_log;
 use program_words::{LogWords, Words, read_words, refuse_bytes};
-use running::run;
-use serving::serve;
+use running::obey_run;
+use serving::obey_serve;
 use std::net::Net;
 use std::process::ExitCode;
 use std::sync::Wait;
@@ -80,15 +80,15 @@ fn obey<'d, H: Threads + Wait + Clock + Sync + Net + Copy + Send + 'static>(
     requires { InRange words }
 {
     match words {
-        Words::Run(words) => run(rt, threads, words, trouble)?,
+        Words::Run(words) => obey_run(rt, threads, words, trouble)?,
         Words::Play => run_schedule(
             rt.alloc(),
             &mut input(rt, trouble),
             &mut output(rt, trouble),
         )?,
-        Words::Serve(words) => serve(rt, threads, words, trouble)?,
-        Words::Log(LogWords { folder, action }) => list_or_cut(rt, folder, action, trouble)?,
-        Words::Ask(words) => ask(rt, threads, words, trouble)?,
+        Words::Serve(words) => obey_serve(rt, threads, words, trouble)?,
+        Words::Log(LogWords { folder, action }) => obey_log(rt, folder, action, trouble)?,
+        Words::Ask(words) => obey_ask(rt, threads, words, trouble)?,
         Words::Checkpoint(words) => {
             let files = SystemFiles { rt: *rt, trouble };
             checkpoint_program(rt.alloc(), &files, words, &mut output(rt, trouble))?

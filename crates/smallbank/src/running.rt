@@ -9,7 +9,7 @@ use std::time::Clock;
 
 /// Runs the calls of standard input, and writes to standard output. Then it tells on standard error how many
 /// lines were answered otherwise than by a reply, if some were. An error of a stream is noted.
-pub(crate) fn run<H: Threads + Wait + Clock + Sync>(
+pub(crate) fn obey_run<H: Threads + Wait + Clock + Sync>(
     rt: &HostRuntime,
     threads: &H,
     words: RunWords,

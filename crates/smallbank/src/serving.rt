@@ -1,14 +1,14 @@
 //! Serving the bank of standard input.
 ghost use Rattle.std.specs.Prelude.{◌⊎◌, ◌≤◌, ◌<◌, false, true, is_some, IfErr, IfOk};
 ghost use Rattle.bank_server.specs.Execution.{HasNoEntries};
-ghost use Rattle.bank_service.specs.ServeFaults.{IsPortFault, IsProgramFault, IsServingFault};
-ghost use Rattle.smallbank.specs.OpeningFaults.{IsOpenFault, IsStoreFault};
+ghost use Rattle.bank_service.specs.ServeFaults.{IsPortFault, IsServingFault};
+ghost use Rattle.smallbank.specs.inner.ServingFaults.{IsOpenFault, IsProgramFault, IsStoreFault};
 
 use bank_clients::{ClientSockets, Limits, OneByOne};
 use bank_program::{
-    CHECKPOINT, Device, LOG, LogReport, RunFault, SessionPrinter, StoreLock, Trouble, Watch, are_open,
-    input, listen, listen_for_many, open_bank, open_bank_on_log, output, read_opening, serve_to_end,
-    serve_queued, tell_earlier, try_store,
+    CHECKPOINT, Device, LOG, LogReport, RunFault, SessionPrinter, StoreLock, Trouble, Watch,
+    are_open, input, listen, listen_for_many, open_bank, open_bank_on_log, output, read_opening,
+    serve_queued, serve_to_end, tell_earlier, try_store,
 };
 use bank_server::Primary;
 use bank_service::ServeFault;
@@ -37,7 +37,7 @@ type SystemBank<'t, 'd, 'r> = Primary<SystemStore<'t, 'd>, AskLog<SystemFile<'r>
 /// A file or a socket would take the place of a standard stream that is closed, so all of them must be open.
 /// The store's folder is locked as long as the bank is served. The server listens only after the whole
 /// input was read and checked, the log's folder read, and the store's folder tried.
-pub(crate) fn serve<'d, H>(
+pub(crate) fn obey_serve<'d, H>(
     rt: &HostRuntime,
     threads: &H,
     words: ServeWords<'d>,
@@ -47,7 +47,7 @@ where
     H: Threads + Wait + Clock + Sync + Net + Copy + Send + 'static,
     requires nodes { words.plan.nodes ≤ REPLICAS }
     requires workers { words.plan.workers ≤ WORKERS }
-    ensures fault { IfErr result (IsProgramFault words.port words.plan (is_some words.log)) }
+    ensures fault { IfErr result (IsProgramFault words.entry.port words.entry.plan (is_some words.entry.log)) }
 {
     if !are_open(rt, trouble) {
         return Err(ServeFault::Run(RunFault::Device));
@@ -69,7 +69,7 @@ where
     H: Threads + Wait + Clock + Sync + Net + Copy + Send + 'static,
     requires nodes { words.plan.nodes ≤ REPLICAS }
     requires workers { words.plan.workers ≤ WORKERS }
-    ensures fault { IfErr result (IsProgramFault words.port words.plan false) }
+    ensures fault { IfErr result (IsProgramFault words.entry.port words.entry.plan false) }
 {
     let (alloc, plan) = (rt.alloc(), words.plan);
     let opening = read_opening(alloc, &mut input(rt, trouble))?;
@@ -94,7 +94,7 @@ where
     H: Threads + Wait + Clock + Sync + Net + Copy + Send + 'static,
     requires nodes { words.plan.nodes ≤ REPLICAS }
     requires workers { words.plan.workers ≤ WORKERS }
-    ensures fault { IfErr result (IsProgramFault words.port words.plan true) }
+    ensures fault { IfErr result (IsProgramFault words.entry.port words.entry.plan true) }
 {
     let reason = Reason::new();
     let mut lock = StoreLock::new();
@@ -126,7 +126,7 @@ fn open_on_log<'t, 'd, 'r>(
     trouble: &'t Trouble<'d>,
 ) -> Result<Box<SystemBank<'t, 'd, 'r>>, ServeFault>
     ensures no_entries { IfOk result (λ primary. HasNoEntries primary.value.node.board) }
-    ensures fault { IfErr result (IsOpenFault words.plan.saves) }
+    ensures fault { IfErr result (IsOpenFault words.entry.plan.saves) }
 {
     let (alloc, saves) = (rt.alloc(), words.plan.saves);
     let file = SystemFile::open(rt, log, LOG, reason)?;
@@ -200,7 +200,16 @@ where
         let connections = trouble.noted(device, made)?;
         let port = trouble.noted(device, connections.port())?;
         let output = rt.stdout();
-        serve_queued(threads, alloc, port, connections, primary, plan, output, trouble)
+        serve_queued(
+            threads,
+            alloc,
+            port,
+            connections,
+            primary,
+            plan,
+            output,
+            trouble,
+        )
     } else {
         let listener = Watch {
             inner: listen(threads, address, trouble)?,

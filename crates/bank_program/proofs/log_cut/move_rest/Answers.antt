@@ -12,11 +12,17 @@ returns-then-not-branch-clause-moved g c honest =
     let read = c.in_ok-read_piece.ensures.read (inv.0.honest.0 honest) in
     let none : take 65536 (drop c.loop.at (g.F.LogFile.content file)) ≡ [] =
     ap (λ (l : List ℕ). take 65536 (drop c.loop.at l)) (sym (inv.0.content_is honest)) ∙ sym read.0 ∙ read.1 c.if-not-branch.true in
-    let same : g.R.Write.contents c.if-at-from.rest ≡ g.R.Write.contents c.loop.rest =
-    elim c.if-at-from.branch [ then-at-from+in_ok-sync w ↦ ap g.R.Write.contents w.rest-is ∙ w.sync.ensures | else-at-from w ↦ ap g.R.Write.contents w.rest-is ] in
+    let same : g.R.Write.contents c.if-at-from.rest ≡ g.R.Write.contents c.loop.rest = elim c.if-at-from.branch [
+      | then-at-from+in_ok-sync w ↦ ap g.R.Write.contents w.rest-is ∙ w.sync.ensures
+      | else-at-from w ↦ ap g.R.Write.contents w.rest-is
+    ] in
     let has = inv.2 honest in
-    subst (λ (o : Option (List ℕ)). (c.loop.at - c.args.from ≡ length (drop c.args.from (g.F.LogFile.content file))) × Appends (g.R.Write.contents c.args.rest.now) o (drop c.args.from (g.F.LogFile.content file))) (sym same)
-    (moved_all (g.F.LogFile.content file) c.args.from c.loop.at (g.R.Write.contents c.args.rest.now) (g.R.Write.contents c.loop.rest) inv.1 has.0 none has.1)
+    let moves = moved_all (g.F.LogFile.content file) c.args.from c.loop.at (g.R.Write.contents c.args.rest.now) (g.R.Write.contents c.loop.rest)
+    inv.1 has.0 none has.1 in (
+      moves.0,
+      subst (λ (o : Option (List ℕ)). Appends (g.R.Write.contents c.args.rest.now) o (drop c.args.from (g.F.LogFile.content file)))
+          (sym same) moves.1,
+    )
 
 pub loop-preserved : goal.loop-preserved
 loop-preserved g c =

@@ -1,0 +1,2 @@
+pub mod LogFaults
+pub mod ServingFaults
