@@ -1,5 +1,5 @@
 //! Clients who are served one after another.
-ghost use Rattle.std.specs.Prelude.{◌≡◌, ◌≤◌, [], length, take, None, true, IfNone, IfSome, IsSome, OnErr, OnOk};
+ghost use Rattle.std.specs.Prelude.{◌≡◌, ◌↔◌, ◌≤◌, ◌<◌, [], length, take, None, false, true, IfNone, IfSome, IsSome, IsTrue, OnErr, OnOk};
 ghost use Rattle.std.specs.Io.KnownBytes.{Appends};
 ghost use Rattle.bank_clients.specs.inner.Streaming.{ReadsPiece, ReadsStream, WritesStream};
 
@@ -26,10 +26,11 @@ const READS: u64 = 1_000_000_000;
 /// the time.
 ///
 /// A contract sees the stream of the client who is there, if one is. A piece that arrives is read from the
-/// front of what remains in that stream, and what is sent is written there, as many bytes as are answered.
-/// No clause says which clients come, when reading or writing is given up, what is skipped of a client at
-/// fault, or that a read writes nothing and a write reads nothing. Whoever takes any connections doesn't
-/// know what comes here, or what goes.
+/// front of what remains in that stream, and nothing arrives only behind its end. What is sent is written
+/// there, as many bytes as are answered, and less than all only if the connection failed. No clause says
+/// which clients come, when a connection counts as failed, what is skipped of a client at fault, or that a
+/// read writes nothing and a write reads nothing. Whoever takes any connections doesn't know what comes
+/// here, or what goes.
 #[derive(Drop)]
 pub struct OneByOne<'a, H, L: OpenListener, N>
 where
@@ -55,6 +56,8 @@ where
     ghost view = { λ c. option_map (λ client. record {
       remaining = L.Stream.remaining client.stream;
       contents = L.Stream.contents client.stream;
+      ended = client.has_ended;
+      failed = client.has_failed;
     }) c.client };
 }
 
@@ -158,6 +161,8 @@ impl<T: Read + Write + OpenStream> Guest<T> {
     fn read_once<H: Clock>(&mut self, rt: &H, chunk: &mut [u8]) -> Option<usize>
         ensures count { IfSome result (λ count. count ≤ length chunk.new) }
         ensures read { ReadsPiece (T.remaining self.old.stream) (T.remaining self.new.stream) result chunk.new }
+        ensures ended { IfSome result (λ count. IsTrue self.new.has_ended ↔ (count ≡ 0)) }
+        ensures failed { IfNone result (self.new.has_failed ≡ true) }
     {
         self.has_failed = self.has_failed || self.is_silent(rt);
         for _ in 0..u64::MAX {
@@ -183,6 +188,7 @@ impl<T: Read + Write + OpenStream> Guest<T> {
         ensures count { result ≤ length bytes.now }
         ensures written { Appends (T.contents self.old.stream) (T.contents self.new.stream)
             (take result bytes.now) }
+        ensures failed { result < length bytes.now → self.new.has_failed ≡ true }
     {
         let mut rest = bytes;
         for _ in 0..u64::MAX {
@@ -195,6 +201,7 @@ impl<T: Read + Write + OpenStream> Guest<T> {
                 Err(error) => self.has_failed = error.kind() != ErrorKind::Interrupted,
             }
         }
+        self.has_failed = self.has_failed || !rest.is_empty();
         let count = bytes.len() - rest.len();
         if count > 0 {
             self.silent_since = None;
@@ -234,9 +241,10 @@ where
     fn next(&mut self, chunk: &mut [u8]) -> Option<Arrival>
         ensures within { IfSome result (λ arrival. IfSome arrival.read (λ count. count ≤ length chunk.new)) }
         ensures place { IfSome result (λ arrival. arrival.client ≡ 0) }
-        // What arrives is read from the client's stream, and else nothing is.
+        // What arrives is read from the client's stream, and nothing is behind its end.
         ensures read { IfSome result (λ arrival. ReadsStream self.old self.new arrival.read chunk.new) }
         ensures unread { IfNone result (self.new ≡ self.old) }
+        ensures over { IfNone result (IfSome self.old (λ client. (client.ended ≡ true) × (client.failed ≡ false))) }
     {
         let client = self.client.as_mut()?;
         if client.has_ended && !client.has_failed {
@@ -285,6 +293,7 @@ where
     fn send(&mut self, _place: usize, bytes: &[u8]) -> usize
         ensures count { result ≤ length bytes.now }
         ensures written { WritesStream self.old self.new (take result bytes.now) }
+        ensures failed { IfSome self.new (λ client. result < length bytes.now → client.failed ≡ true) }
     {
         match &mut self.client {
             Some(client) => client.write_whole(bytes),

@@ -137,7 +137,7 @@ impl<A: Connections> Sessions<A> {
         ensures serves { ServesOn K.model C.keeps (as_session session_of_turn_fault result) primary.old primary.new }
     {
         let may_exceed = self.may_exceed;
-        // So it is if the round isn't gone through.
+        // If the round isn't gone through, nothing is known of it.
         self.may_exceed = true;
         deliver_rest(&mut self.connections, &mut self.clients);
         self.clients.turn(&mut self.connections, primary, crew)?;
