@@ -1,5 +1,5 @@
 -- What connections take of what clients have unread.
-use Rattle.std.proofs.Common.{◌≡◌, ℕ, ◌<◌, Bool, true, false, if◌then◌else◌, Option, Some, List, [], ◌∷◌, ◌++◌, refl, sym, ap, subst, ◌∙◌, append-nil, append_assoc, drop, length}
+use Rattle.std.proofs.Common.{◌≡◌, ℕ, ◌<◌, Bool, true, false, if◌then◌else◌, Option, Some, None, List, [], inl, inr, ◌⊎◌, ◌∷◌, ◌++◌, refl, sym, ap, subst, ◌∙◌, append-nil, append_assoc, drop, length}
 use Rattle.std.specs.Prelude.{◌==◌, ◌≢◌, IfSome, slice_get, slice_set, take}
 use Rattle.std.proofs.lemmas.Bool.{eqb-true, false≢true}
 use Rattle.std.proofs.lemmas.Grind.{flat_map-append}
@@ -7,12 +7,13 @@ use Rattle.std.proofs.lemmas.List.{take-append-drop}
 use Rattle.sb_calls.proofs.CownContents.{eqb-refl}
 use Rattle.cown_board.proofs.LogLaws.{some_at}
 use Rattle.cown_board.proofs.StateChanges.{slice_get-set_other, slice_get-set_same}
-use Rattle.bank_server.specs.Clients.{ClientOf, ClientsOf, OutgoingOf}
+use Rattle.std.specs.List.{Contains}
+use Rattle.bank_server.specs.Clients.{AreCalmBut, ClientOf, ClientsOf, IsCalm, OutgoingOf}
 use Rattle.bank_clients.specs.History.{TakesBytes}
 use Rattle.bank_clients.specs.Sessions.{SessionsOf, TakesUnread, bytes_to, unread_of}
 use Rattle.bank_clients.specs.inner.Rounds.{LeavesRest}
 use Rattle.bank_clients.proofs.Histories.{nothing_went, went_then}
-use Rattle.bank_clients.proofs.Places.{if_there}
+use Rattle.bank_clients.proofs.Places.{if_there, nobody_among}
 
 -- nothing is taken
 pub rests_still : (clients : List ClientOf) (sent : Option (List (ℕ × List ℕ))) → LeavesRest clients clients sent sent
@@ -88,3 +89,32 @@ pub unsent_behind : {A : Type 0} (outgoing : A → OutgoingOf) (before : Session
 unsent_behind outgoing before rested sent turned rests same =
     subst (λ (o : OutgoingOf). TakesUnread before.clients.all (outgoing before.connections).sent o.sent) (sym same)
     (takes_unread before.clients.all rested (outgoing before.connections).sent sent.sent rests)
+
+-- who is given nothing has unread what it had
+still_unread : (old new : Option ClientOf) → IsCalm old new → unread_of old ≡ unread_of new
+still_unread None None calm = refl
+still_unread None (Some new) calm = absurd calm
+still_unread (Some old) None calm = absurd calm
+still_unread (Some old) (Some new) calm = sym calm.0
+
+-- a turn that gives nobody anything changes nothing of that
+rests_calm : (old turned new : List ClientOf) (sent sent_after : Option (List (ℕ × List ℕ))) → AreCalmBut [] old turned
+    → LeavesRest turned new sent sent_after → LeavesRest old new sent sent_after
+rests_calm old turned new sent sent_after calm rests = record {
+  bytes = rests.bytes;
+  took = rests.took;
+  rest = λ place. same place (calm place) ∙ rests.rest place;
+}
+  where
+    same : (place : ℕ) → IsCalm (slice_get old place) (slice_get turned place) ⊎ Contains [] place
+        → unread_of (slice_get old place) ≡ unread_of (slice_get turned place)
+    same place (inl is) = still_unread (slice_get old place) (slice_get turned place) is
+    same place (inr there) = absurd (nobody_among place there)
+
+-- a round in which nobody is told anything takes only what was unread
+pub round_unread : (stirred : List ℕ) (before rested turned last : List ClientOf) (s t u v : Option (List (ℕ × List ℕ))) → stirred ≡ []
+    → LeavesRest before rested s t → AreCalmBut stirred rested turned → u ≡ t → LeavesRest turned last u v → TakesUnread before s v
+round_unread stirred before rested turned last s t u v none first calm same second =
+    let calm_all = subst (λ (l : List ℕ). AreCalmBut l rested turned) none calm in
+    let behind = subst (λ (o : Option (List (ℕ × List ℕ))). LeavesRest turned last o v) same second in
+    takes_unread before last s v (rests_then before rested last s t v first (rests_calm rested turned last t v calm_all behind))

@@ -1,5 +1,5 @@
 //! The sessions of clients who are served at once.
-ghost use Rattle.std.specs.Prelude.{◌≡◌, ◌≤◌, ◌∷◌, ℕ, List, [], length, IfErr, IfNone, IfOk, IfSome, OnErr, OnOk, slice_set};
+ghost use Rattle.std.specs.Prelude.{◌≡◌, ◌⊎◌, ◌≤◌, ◌∷◌, ℕ, List, [], length, IfErr, IfNone, IfOk, IfSome, OnErr, OnOk, slice_set};
 ghost use Rattle.std.specs.List.{All};
 ghost use Rattle.sb_calls.specs.declared.ask.Key.{Key as AnyKey};
 ghost use Rattle.sb_calls.specs.declared.call.Call.{Call as AnyCall};
@@ -127,6 +127,9 @@ impl<A: Connections> Sessions<A> {
         ensures served { OnOk result (GoesOn (opening_rows_of primary.old)
             (outside_of A.coming A.outgoing self.old.connections) primary.old.log self.old.clients.all []
             (outside_of A.coming A.outgoing self.new.connections) primary.new.log self.new.clients.all) }
+        // Nothing goes out but by a log that is kept, or what clients had unread before.
+        ensures kept { OnOk result (K.model.Keeps primary.new.keeper primary.new.log ⊎ TakesUnread self.old.clients.all
+            (A.outgoing self.old.connections).sent (A.outgoing self.new.connections).sent) }
         // After a fault nothing that the turn gave went out, but only what clients had unread before.
         ensures unsent { OnErr result (TakesUnread self.old.clients.all
             (A.outgoing self.old.connections).sent (A.outgoing self.new.connections).sent) }

@@ -1,4 +1,4 @@
-use Rattle.std.proofs.Common.{◌≡◌, ℕ, List, false, [], Ok, Err, length, subst, sym, ap, ◌∙◌}
+use Rattle.std.proofs.Common.{◌≡◌, ℕ, inl, inr, List, false, [], Ok, Err, length, subst, sym, ap, ◌∙◌}
 use Rattle.std.specs.Prelude.{Result, OnOk, is_err}
 use Rattle.std.proofs.lemmas.Bool.{false≢true}
 use Rattle.std.proofs.lemmas.Result.{err_from_is_err_and}
@@ -8,12 +8,12 @@ use Rattle.bank_server.specs.SessionFaults.{as_session, session_of_turn_fault}
 use Rattle.bank_server.proofs.boards.WholeReplies.{err_always}
 use Rattle.bank_server.proofs.sessions.Serving.{keep_fails, serves_kept}
 use Rattle.bank_clients.specs.History.{GoesOn}
-use Rattle.bank_clients.specs.Sessions.{AreReady, AreSentBut, SessionsOf, outside_of}
+use Rattle.bank_clients.specs.Sessions.{AreReady, AreSentBut, SessionsOf, TakesUnread, outside_of}
 use Rattle.bank_clients.specs.inner.Rounds.{LeavesRest}
 use Rattle.bank_clients.proofs.Deliveries.{sent_among, sent_before_turn}
 use Rattle.bank_clients.proofs.Histories.{round_goes_on}
 use Rattle.bank_clients.proofs.Leaving.{ended_in_round, listed_behind}
-use Rattle.bank_clients.proofs.Unread.{unsent_behind}
+use Rattle.bank_clients.proofs.Unread.{round_unread, unsent_behind}
 use Rattle.bank_clients.proofs.UnreadByAll.{few_behind}
 use Rattle.bank_clients.proofs.sessions.Sessions.serve.Goals as goal
 
@@ -120,3 +120,18 @@ invariant_of-self-2 g c known =
     (sent inside.connections) (sent rested.connections) (sent turned.arrivals) (sent last.connections) c.self.invariant c.deliver_rest.ensures.rest
     (subst (λ (l : List ℕ). AreCalmBut l rested.clients.all turned.self.all) (sym c.deliver_new.ensures.stirred) c.in_ok-turn.ensures.leaves.calm)
     c.deliver_new.ensures.rest (c.is_exceeded-self-inside.ensures.few known)
+
+pub returns-clause-kept : goal.returns-clause-kept
+returns-clause-kept g c =
+    let sent = λ (a : g.row.A.Denot). (g.A.Arrivals.outgoing a).sent in
+    let inside = c.self.inside in
+    let rested = c.deliver_rest.new in
+    let turned = c.turn.new in
+    let last = c.deliver_new.new in
+    elim c.in_ok-turn.ensures.leaves.stirred [
+      | inl kept ↦ inl kept
+      | inr none ↦ inr (subst (λ (s : SessionsOf g.row.A.Denot). TakesUnread s.clients.all (sent s.connections) (sent last.connections))
+          c.self.view_is (round_unread turned.self.stirred inside.clients.all rested.clients.all turned.self.all last.clients.all
+          (sent inside.connections) (sent rested.connections) (sent turned.arrivals) (sent last.connections) none c.deliver_rest.ensures.rest
+          c.in_ok-turn.ensures.leaves.calm (ap (λ (o : OutgoingOf). o.sent) c.turn.ensures.leaves.outgoing) c.deliver_new.ensures.rest))
+    ]
