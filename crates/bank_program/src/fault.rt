@@ -10,7 +10,6 @@ use bank_service::{ListFault, ServeFault};
 use checkpoint_text::CheckpointListFault;
 use sb_checkpoint::CheckpointFault;
 use schedule_player::ScheduleFault;
-use std::alloc::{AllocError, AllocFailed};
 use thiserror::Error;
 
 /// Why a program ends without its output.
@@ -128,17 +127,5 @@ impl From<AskFault> for ProgramFault {
 
     fn from(fault: AskFault) -> ProgramFault {
         ProgramFault::Ask(fault)
-    }
-}
-
-impl From<AllocError> for ProgramFault {
-    fn from(_: AllocError) -> ProgramFault {
-        ProgramFault::Run(RunFault::OutOfMemory)
-    }
-}
-
-impl<T: Drop> From<AllocFailed<T>> for ProgramFault {
-    fn from(_: AllocFailed<T>) -> ProgramFault {
-        ProgramFault::Run(RunFault::OutOfMemory)
     }
 }
