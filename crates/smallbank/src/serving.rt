@@ -164,7 +164,7 @@ fn store_of<'t, 'd>(
 }
 
 // Serves the clients of a bank at a port of the plan's host: as many at once as the plan says, or one after
-// another. An error of the system is noted.
+// another.
 fn serve_clients<H, S, K>(
     rt: &HostRuntime,
     threads: &H,
@@ -183,24 +183,35 @@ where
     ensures fault { IfErr result (λ fault. IsPortFault port fault
         ⊎ IsServingFault plan.nodes (0 < plan.workers) plan.saves K.model.fails fault) }
 {
-    let (alloc, address) = (rt.alloc(), SocketAddr::new(plan.host, port));
-    let device = Device::Address(address);
-    let notes = SessionPrinter::new(rt, plan.is_quiet);
-    let patience = plan
-        .patience
-        .map(|seconds| Duration::from_secs(seconds as u64));
-    if let Some(at_once) = plan.clients {
-        let limits = Limits {
-            at_once,
-            in_all: plan.sessions,
-            patience,
-        };
-        let listener = listen_for_many(threads, address, trouble)?;
-        let made = ClientSockets::new(threads, threads, alloc, listener, limits, notes);
-        let connections = trouble.noted(device, made)?;
-        let port = trouble.noted(device, connections.port())?;
-        let output = rt.stdout();
-        serve_queued(
+    match plan.clients {
+        Some(at_once) => serve_sockets(rt, threads, port, at_once, primary, plan, trouble),
+        None => serve_in_turn(rt, threads, port, primary, plan, trouble),
+    }
+}
+
+// Serves so many clients at once. What is printed waits in a queue.
+fn serve_sockets<H, S, K>(
+    rt: &HostRuntime,
+    threads: &H,
+    port: u16,
+    at_once: usize,
+    primary: Box<Primary<S, K>>,
+    plan: Plan,
+    trouble: &Trouble<'_>,
+) -> Result<(), ServeFault>
+where
+    H: Threads + Wait + Clock + Sync + Net + Copy + Send + 'static,
+    S: CheckpointStore,
+    K: Keeper,
+    requires nodes { plan.nodes ≤ REPLICAS }
+    requires workers { plan.workers ≤ WORKERS }
+    requires opened { HasNoEntries primary.value.node.board }
+    ensures fault { IfErr result (λ fault. IsPortFault port fault
+        ⊎ IsServingFault plan.nodes (0 < plan.workers) plan.saves K.model.fails fault) }
+{
+    let (alloc, output) = (rt.alloc(), rt.stdout());
+    match sockets_at(rt, threads, port, at_once, plan, trouble) {
+        Ok((connections, port)) => serve_queued(
             threads,
             alloc,
             port,
@@ -209,16 +220,76 @@ where
             plan,
             output,
             trouble,
-        )
-    } else {
-        let listener = Watch {
-            inner: listen(threads, address, trouble)?,
-            device,
-            trouble,
-        };
-        let connections = OneByOne::new(threads, listener, patience, notes);
-        let port = connections.port()?;
-        let writer = output(rt, trouble);
-        serve_to_end(threads, alloc, port, connections, primary, plan, writer)
+        ),
+        Err(fault) => Err(fault),
     }
+}
+
+// The sockets of clients who are served at once, and the port where they come. An error of the system is noted.
+fn sockets_at<'a, H: Wait + Clock + Net>(
+    rt: &HostRuntime,
+    threads: &'a H,
+    port: u16,
+    at_once: usize,
+    plan: Plan,
+    trouble: &Trouble<'_>,
+) -> Result<(ClientSockets<'a, H, SessionPrinter>, u16), ServeFault>
+    ensures fault { IfErr result (IsPortFault port) }
+{
+    let address = SocketAddr::new(plan.host, port);
+    let device = Device::Address(address);
+    let limits = Limits {
+        at_once,
+        in_all: plan.sessions,
+        patience: patience_of(plan),
+    };
+    let notes = SessionPrinter::new(rt, plan.is_quiet);
+    let listener = listen_for_many(threads, address, trouble)?;
+    let made = ClientSockets::new(threads, threads, rt.alloc(), listener, limits, notes);
+    let connections = trouble.noted(device, made)?;
+    let port = trouble.noted(device, connections.port())?;
+    Ok((connections, port))
+}
+
+// Serves clients one after another. An error of the system is noted.
+fn serve_in_turn<H, S, K>(
+    rt: &HostRuntime,
+    threads: &H,
+    port: u16,
+    primary: Box<Primary<S, K>>,
+    plan: Plan,
+    trouble: &Trouble<'_>,
+) -> Result<(), ServeFault>
+where
+    H: Threads + Wait + Clock + Sync + Net + Copy + Send + 'static,
+    S: CheckpointStore,
+    K: Keeper,
+    requires nodes { plan.nodes ≤ REPLICAS }
+    requires workers { plan.workers ≤ WORKERS }
+    requires opened { HasNoEntries primary.value.node.board }
+    ensures fault { IfErr result (λ fault. IsPortFault port fault
+        ⊎ IsServingFault plan.nodes (0 < plan.workers) plan.saves K.model.fails fault) }
+{
+    let (alloc, address) = (rt.alloc(), SocketAddr::new(plan.host, port));
+    let inner = match listen(threads, address, trouble) {
+        Ok(listener) => listener,
+        Err(fault) => return Err(fault),
+    };
+    let device = Device::Address(address);
+    let listener = Watch {
+        inner,
+        device,
+        trouble,
+    };
+    let notes = SessionPrinter::new(rt, plan.is_quiet);
+    let connections = OneByOne::new(threads, listener, patience_of(plan), notes);
+    let port = connections.port()?;
+    let writer = output(rt, trouble);
+    serve_to_end(threads, alloc, port, connections, primary, plan, writer)
+}
+
+// For how long a client may be silent.
+fn patience_of(plan: Plan) -> Option<Duration> {
+    plan.patience
+        .map(|seconds| Duration::from_secs(seconds as u64))
 }
