@@ -216,13 +216,9 @@ fn cut(
 fn what_is_cut_off_a_log(rt: HostRuntime) {
     let alloc = rt.alloc();
     let bytes = kept(&rt, alloc);
+    let torn = bytes.get(..8).expect(&rt, "8 bytes");
     let long = vec![in alloc; 1u8; 70_000].expect(&rt, "memory");
-    for behind in [
-        b"".as_slice(),
-        &bytes[..8],
-        b"damage that is no record",
-        &long,
-    ] {
+    for behind in [b"".as_slice(), torn, b"damage that is no record", &long] {
         let (done, file, rest, printed) = cut(&rt, alloc, &bytes, behind, false);
         assert!(rt; done.is_ok());
         assert!(rt; file.bytes() == bytes.as_slice(), "the log stays");
@@ -241,7 +237,8 @@ fn nothing_is_cut_off_that_is_not_moved(rt: HostRuntime) {
     assert!(rt; file.bytes().strip_prefix(bytes.as_slice()) == Some(b"rest".as_slice()));
     assert!(rt; printed.is_empty());
     // Less than the first record is no log.
-    let (done, file, rest, printed) = cut(&rt, alloc, &bytes[..60], b"", false);
+    let torn = bytes.get(..60).expect(&rt, "60 bytes");
+    let (done, file, rest, printed) = cut(&rt, alloc, torn, b"", false);
     assert!(rt; done == Err(ListFault::NoLog));
-    assert!(rt; file.bytes() == &bytes[..60] && rest.bytes.is_empty() && printed.is_empty());
+    assert!(rt; file.bytes() == torn && rest.bytes.is_empty() && printed.is_empty());
 }
