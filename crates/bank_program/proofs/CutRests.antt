@@ -1,9 +1,9 @@
 -- A log that is cut behind its last whole record.
-use Rattle.std.proofs.Common.{◌≡◌, ◌≢◌, ◌⊎◌, ◌++◌, ◌∙◌, ◌+◌, ◌-◌, ◌≤◌, ℕ, Bool, false, Result, Ok, Err, List, [], ◌∷◌, ap, sym, subst, drop, length, refl, inl, inr, arith, length-append, length-drop}
-use Rattle.std.specs.Prelude.{Option, OnErr, OnOk, is_err, take, min}
+use Rattle.std.proofs.Common.{◌≡◌, ◌⊎◌, ◌++◌, ◌∙◌, ◌+◌, ◌-◌, ℕ, false, Result, Ok, Err, List, [], ◌∷◌, ap, sym, subst, drop, length, inl, inr, arith, length-append, length-drop}
+use Rattle.std.specs.Prelude.{Option, OnErr, OnOk, is_err, take}
 use Rattle.std.specs.Io.KnownBytes.{Appends}
 use Rattle.std.proofs.lemmas.Grind.{common_steps}
-use Rattle.std.proofs.Math.Seq.{take-append_seam, drop-append_seam, take-length}
+use Rattle.std.proofs.Math.Seq.{take-append_seam, drop-append_seam}
 use Rattle.std.proofs.lemmas.List.{take-append-drop}
 use Rattle.sb_log.specs.LogFiles.{IsCutTo}
 use Rattle.sb_log.specs.Records.{records}

@@ -1,5 +1,5 @@
 -- A file that is copied piece by piece.
-use Rattle.std.proofs.Common.{min, length-drop, ◌≡◌, ◌++◌, ◌∙◌, ◌+◌, ◌-◌, ◌≤◌, ℕ, List, [], ap, sym, subst, drop, length, refl, arith}
+use Rattle.std.proofs.Common.{min, length-drop, ◌≡◌, ◌++◌, ◌∙◌, ◌+◌, ◌-◌, ◌≤◌, ℕ, List, [], ap, sym, subst, drop, length, arith}
 use Rattle.std.specs.Prelude.{Option, take}
 use Rattle.std.specs.Io.KnownBytes.{Appends}
 use Rattle.std.proofs.KnownBytes.{Appends-trans}

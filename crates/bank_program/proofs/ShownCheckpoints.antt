@@ -1,9 +1,7 @@
 -- What is shown of a checkpoint, by what the files have, if that is known.
 use Rattle.std.proofs.Common.{◌≡◌, Bor, ℕ, Option, Some, None, List, subst}
-use Rattle.std.specs.Prelude.{IfSome, string_bytes}
-use Rattle.std.specs.Io.KnownBytes.{Appends}
+use Rattle.std.specs.Prelude.{IfSome}
 use Rattle.sb_rows.specs.declared.opening.Opening.{Opening as AnyOpening}
-use Rattle.sb_checkpoint.specs.Reading.{first_fault}
 use Rattle.checkpoint_text.specs.Faults.{IsCheckpointListFault}
 use Rattle.checkpoint_text.specs.Origins.{opening_origin}
 use Rattle.checkpoint_text.specs.declared.fault.CheckpointListFault.{CheckpointListFault}

@@ -1,8 +1,6 @@
 -- The clients that a plan has served.
 use Rattle.std.specs.Prelude.{ℕ, ◌-◌, ◌^◌, Option, Some, None, List, replicate}
 use Rattle.bank_server.specs.Clients.{ClientOf, fresh_client}
-use Rattle.bank_server.specs.declared.session.client_limits.ClientLimits.{ClientLimits}
-use Rattle.program_words.specs.declared.plan.Plan.{Plan}
 
 -- clients before their first byte: as many as are to be served at once, each within the limits of one beside others;
 -- or, one after another, one alone

@@ -1,4 +1,4 @@
-use Rattle.std.proofs.Common.{rules, ◌≡◌, ◌<◌, ◌≤◌, ◌+◌, ◌∷◌, ◌∙◌, [], None, Option, List, ℕ, Bor, sym, ap, arith}
+use Rattle.std.proofs.Common.{rules, ◌≡◌, ◌∷◌, ◌∙◌, [], None, List, ℕ, Bor, ap, arith}
 use Rattle.std.specs.Prelude.{option_map, slice_get}
 use Rattle.sb_rows.specs.Text.{lines}
 use Rattle.bank_program.proofs.LinesShown.{left_here, left_next, left_none}

@@ -1,4 +1,4 @@
-use Rattle.std.proofs.Common.{rules, ◌≡◌, ◌⊎◌, ◌∙◌, ℕ, List, [], ap, inl, length, inr, refl, subst, sym}
+use Rattle.std.proofs.Common.{◌≡◌, ◌∙◌, ℕ, List, ap, inl, length, inr, subst, sym}
 use Rattle.std.specs.Prelude.{OnOk, take}
 use Rattle.bank_program.specs.CutLogs.{CutsOff, ListsCheck}
 use Rattle.bank_program.proofs.CutRests.{cut_or_not, cuts_off, if_ok, if_so}

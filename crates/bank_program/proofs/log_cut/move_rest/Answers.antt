@@ -1,4 +1,4 @@
-use Rattle.std.proofs.Common.{rules, ◌≡◌, ◌++◌, ◌∙◌, ℕ, ◌+◌, ◌-◌, ◌≤◌, List, [], ap, subst, sym, drop, length, arith}
+use Rattle.std.proofs.Common.{rules, ◌≡◌, ◌∙◌, ℕ, ◌+◌, List, [], ap, subst, sym, drop, length, arith}
 use Rattle.std.specs.Prelude.{Option, take}
 use Rattle.std.specs.Io.KnownBytes.{Appends}
 use Rattle.bank_program.proofs.MovedPieces.{moved_all, moved_on}
