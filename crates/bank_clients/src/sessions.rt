@@ -170,7 +170,7 @@ impl<A: Connections> Sessions<A> {
                 });
             }
         }
-        // Who is over anyway leaves first. Then too much may not be unread any more.
+        // Clients who are over anyway leave first: without what they left, too much may not be unread.
         let place = self.greediest()?;
         Some(Over {
             place,

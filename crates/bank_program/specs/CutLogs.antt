@@ -4,7 +4,10 @@ use Rattle.std.specs.Io.KnownBytes.{Appends}
 use Rattle.sb_calls.specs.declared.ask.Key.{Key}
 use Rattle.sb_calls.specs.declared.call.Call.{Call}
 use Rattle.sb_ask_log.specs.Recovery.{IsDamagedAskLog, ReadsAskLog}
+use Rattle.sb_log.specs.declared.log_fault.LogFault.TheVariants as log
 use Rattle.bank_service.specs.LogListing.{IsListing}
+use Rattle.bank_service.specs.declared.list_fault.ListFault.{ListFault}
+use Rattle.bank_service.specs.declared.list_fault.ListFault.TheVariants.{Log, NoLog}
 use Rattle.program_words.specs.declared.listing.Listing.TheVariants.{Check}
 
 -- the bytes are the longest log that they begin with, and then this rest: a torn one, or damage
@@ -21,3 +24,11 @@ CutsOff old new rest_old rest_new = (rest : List ℕ) × IsBehindLog old new res
 abbrev pub ListsCheck : List ℕ → Option (List ℕ) → Option (List ℕ) → Type 0
 ListsCheck content old new = (text : List ℕ) × (log : List (Key × Call)) × (rest : List ℕ)
     × ReadsAskLog content text log rest × (listed : List ℕ) × IsListing Check text log listed × Appends old new listed
+
+-- why a log of these bytes isn't cut: it has no whole first record, or is damaged from its first byte on; or what
+-- follows it can't be written elsewhere; or a device failed, or memory was refused
+abbrev pub IsCutFault : List ℕ → ListFault → Type 0
+IsCutFault content NoLog = (log : List (Key × Call)) × (rest : List ℕ) × ReadsAskLog content [] log rest
+IsCutFault content (Log (log.Damaged byte behind)) = (byte ≡ 0) × IsDamagedAskLog content byte behind
+IsCutFault content (Log log.InUse) = ⊥
+IsCutFault content other = Unit {0}

@@ -1,8 +1,9 @@
 //! Cutting a log behind its last whole record.
-ghost use Rattle.std.specs.Prelude.{◌≡◌, ◌⊎◌, [], drop, length, take, IfOk, IsFalse, OnOk};
+ghost use Rattle.std.specs.Prelude.{◌≡◌, ◌⊎◌, [], drop, length, take, IfErr, IfOk, IsFalse, OnOk};
 ghost use Rattle.std.specs.Io.KnownBytes.{Appends};
 ghost use Rattle.sb_log.specs.LogFiles.{Stays};
-ghost use Rattle.bank_program.specs.CutLogs.{CutsOff, ListsCheck};
+ghost use Rattle.bank_program.specs.CutLogs.{CutsOff, IsCutFault, ListsCheck};
+ghost use Rattle.bank_service.specs.ListFaults.{IsListFault};
 ghost use Rattle.bank_program.specs.inner.LogEnds.{EndsRecordsAt};
 
 use crate::log_rest::RestFile;
@@ -25,7 +26,8 @@ const PIECE: usize = 65_536;
 /// - [`ListFault::Rest`] if what follows can't be written, or another one than was read is there,
 /// - [`ListFault::Log`] if the file can't be read or cut, or is damaged from its first byte on,
 /// - [`ListFault::Device`] if the line can't be printed,
-/// - [`ListFault::OutOfMemory`] if memory is refused.
+/// - [`ListFault::OutOfMemory`] if memory is refused,
+/// - the fault of [`list_log`] if the log that is left can't be read.
 ///
 /// Nothing is cut off then, or what was is in the other file.
 pub fn cut_log<F: LogFile, R: RestFile, W: Write>(
@@ -41,6 +43,8 @@ pub fn cut_log<F: LogFile, R: RestFile, W: Write>(
         (W.contents writer.old) (W.contents writer.new)) }
     ensures kept { F.IsHonest file.old → (F.content file.new ≡ F.content file.old)
         ⊎ CutsOff (F.content file.old) (F.content file.new) (R.contents rest.old) (R.contents rest.new) }
+    ensures fault { F.IsHonest file.old → IfErr result (λ fault. IsCutFault (F.content file.old) fault
+        ⊎ IsListFault (F.content file.new) fault) }
 {
     let (end, behind) = end_of_records(alloc, file)?;
     match move_rest(alloc, file, end, rest) {
@@ -57,6 +61,7 @@ pub fn cut_log<F: LogFile, R: RestFile, W: Write>(
 fn end_of_records<F: LogFile>(alloc: Global, file: &mut F) -> Result<(usize, usize), ListFault>
     ensures file { Stays F.IsHonest F.content F.synced file.old file.new }
     ensures end { F.IsHonest file.old → IfOk result (λ at. EndsRecordsAt (F.content file.old) at.0 at.1) }
+    ensures fault { F.IsHonest file.old → IfErr result (IsCutFault (F.content file.old)) }
 {
     match read_asks(alloc, file) {
         Ok(found) if found.text.is_empty() => Err(ListFault::NoLog),

@@ -1,6 +1,9 @@
-use Rattle.std.proofs.Common.{◌≡◌, ◌∙◌, ℕ, List, ap, inl, length, inr, subst, sym}
-use Rattle.std.specs.Prelude.{OnOk, take}
-use Rattle.bank_program.specs.CutLogs.{CutsOff, ListsCheck}
+use Rattle.std.proofs.Common.{◌≡◌, ◌⊎◌, ◌∙◌, ℕ, List, ap, inl, length, inr, subst, sym}
+use Rattle.std.specs.Prelude.{IfErr, OnOk, take}
+use Rattle.std.proofs.lemmas.Result.{IfErr-weaker}
+use Rattle.bank_service.specs.ListFaults.{IsListFault}
+use Rattle.bank_service.specs.declared.list_fault.ListFault.{ListFault}
+use Rattle.bank_program.specs.CutLogs.{CutsOff, IsCutFault, ListsCheck}
 use Rattle.bank_program.proofs.CutRests.{cut_or_not, cuts_off, if_ok, if_so}
 use Rattle.bank_program.proofs.log_cut.cut_log.Goals as goal
 use Rattle.bank_program.proofs.log_cut.cut_log.Goals.{then-is_err-via-then-is_err, then-is_err-via-else-is_err+then-is_err-2}
@@ -66,3 +69,11 @@ returns-clause-synced g c honest =
     let synced = if_ok c.sync.result _ (sym c.if-is_err-2.ensures.value) (c.sync.ensures.synced h3) in
     if_so c.list_log.result (c.list_log.ensures.file.synced_is h4 ∙ synced
     ∙ ap length (sym (c.list_log.ensures.file.content_is h4 ∙ c.sync.ensures.content h3)))
+
+pub returns-clause-fault : goal.returns-clause-fault
+returns-clause-fault g c honest =
+    let h4 = c.sync.ensures.honest.0 (c.cut.ensures.honest.0 (c.move_rest.ensures.file.honest.0 (c.end_of_records.ensures.file.honest.0 honest))) in
+    let old = g.F.LogFile.content c.args.file.now in
+    let new = g.F.LogFile.content c.list_log.new.file in
+    IfErr-weaker c.list_log.result (IsListFault new) (λ (fault : ListFault). IsCutFault old fault ⊎ IsListFault new fault) (λ fault is. inr is)
+    (subst (λ (bytes : List ℕ). IfErr c.list_log.result (IsListFault bytes)) (sym (c.list_log.ensures.file.content_is h4)) (c.list_log.ensures.fault h4))
