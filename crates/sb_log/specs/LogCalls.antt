@@ -1,8 +1,9 @@
 -- What the calls of a log do, as events of its file's life.
-use Rattle.std.specs.Prelude.{◌≡◌, ◌⊎◌, ℕ, Bool, false, not, Result, Ok, Err, List, [], ◌∷◌, ◌++◌, length}
+use Rattle.std.specs.Prelude.{◌≡◌, ◌⊎◌, ℕ, ◌≤◌, Bool, false, true, not, Result, Ok, Err, List, [], ◌∷◌, ◌++◌, length}
 use Rattle.sha2.specs.declared.Sha256.{Sha256}
 use Rattle.sha2.specs.Hashers.{Holds256}
 use Rattle.sb_log.specs.Lives.{Append, AppendFails, Cut, Happens, HappensAll, Life, ReadBack, Sync, SyncFails, newborn}
+use Rattle.sb_log.specs.LogFiles.{LogFileOf}
 use Rattle.sb_log.specs.Reading.{IsTorn, ReadsRecords}
 use Rattle.sb_log.specs.Records.{IsBody, body_bytes, record_after, records}
 use Rattle.sb_log.specs.Replaying.{ReplaysAll}
@@ -16,14 +17,16 @@ pub record DurableLogOf (F : Type 0) : Type 0 where
   pub hasher : Sha256
   pub failed : Bool
 
--- a life so far: the file has these bytes, of which so many are synced
-pub record IsFileOf (content : List ℕ) (synced : ℕ) (l : Life) : Type 0 where
-  pub content_is : l.content ≡ content
-  pub synced_is : l.synced ≡ synced
+-- a life so far: the file has these bytes, and at least what is synced in the life; while the life is healthy, a
+-- sync reaches all of them
+pub record IsFileOf (file : LogFileOf) (l : Life) : Type 0 where
+  pub content_is : l.content ≡ file.content
+  pub synced_in : l.synced ≤ file.synced
+  pub syncable_in : l.healthy ≡ true → length file.content ≤ file.syncable
 
 -- the same of a log: it is healthy unless a call failed, and then its hasher holds all that was given
-pub record IsLogOf (content : List ℕ) (synced : ℕ) (failed : Bool) (hasher : Sha256) (l : Life) : Type 0 where
-  pub file : IsFileOf content synced l
+pub record IsLogOf (now : LogFileOf) (failed : Bool) (hasher : Sha256) (l : Life) : Type 0 where
+  pub file : IsFileOf now l
   pub healthy_is : l.healthy ≡ not failed
   pub holds : failed ≡ false → Holds256 hasher (body_bytes l.given)
 
@@ -88,6 +91,6 @@ module _ {T : Type 0} (replays : T → List ℕ → T → Type 0) (refuses : T �
       × ReadsTo l.content old bodies rest end new × Happens l (ReadBack bodies rest) m
   Recovers l old (Err (Damaged byte behind)) new m = IsDamagedAt l.content old byte behind × (m ≡ l)
   Recovers l old (Err InUse) new m = ⊥
-  -- what follows the records may have been cut off
-  Recovers l old (Err other) new m = (m ≡ l)
-      ⊎ ((bodies : List (List ℕ)) × (rest : List ℕ) × Happens l (Cut bodies rest) m)
+  -- what follows the records may have been cut off, and the file has to be recovered again
+  Recovers l old (Err other) new m = (n : Life) × (m ≡ record n { healthy = false })
+      × ((n ≡ l) ⊎ ((bodies : List (List ℕ)) × (rest : List ℕ) × Happens l (Cut bodies rest) n))

@@ -10,7 +10,7 @@ use crate::log_end::LogEnd;
 use crate::log_fault::LogFault;
 use crate::log_file::LogFile;
 use crate::record::{HEAD, with_body, write_head};
-use crate::recovery::sync_all;
+use crate::truncation::sync_all;
 use sha2::{Digest, Sha256};
 
 /// Makes a log in an empty file, with a first record, and has it on the disk. The buffer has room for
@@ -20,10 +20,10 @@ use sha2::{Digest, Sha256};
 pub fn create_log<F: LogFile>(file: &mut F, buffer: &mut [u8]) -> Result<LogEnd, LogFault>
     requires head { HEAD ≤ length buffer.old }
     requires body { IsBody (drop HEAD buffer.old) }
-    requires empty { F.IsHonest file.old → (F.content file.old ≡ []) × (F.synced file.old ≡ 0) }
+    requires empty { F.IsHonest file.old → (F.model file.old).content ≡ [] }
     ensures honest { F.IsHonest file.old ↔ F.IsHonest file.new }
     ensures life { F.IsHonest file.old → (l : Life) × DoesCreate (drop HEAD buffer.old) result l
-        × IsFileOf (F.content file.new) (F.synced file.new) l }
+        × IsFileOf (F.model file.new) l }
     ensures end { IfOk result (λ end. (end.records ≡ length buffer.old) × (end.torn ≡ 0)
         × Holds256 end.hasher (drop HEAD buffer.old)) }
     ensures failed { OnErr result (F.has_failed file.new ≡ true) }

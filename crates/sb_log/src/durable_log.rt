@@ -86,9 +86,9 @@ impl<F: LogFile> DurableLog<F> {
         requires body { IsBody (drop HEAD buffer.old) }
         ensures honest { F.IsHonest self.old.file ↔ F.IsHonest self.new.file }
         ensures life { F.IsHonest self.old.file → (l : Life)
-            → IsLogOf (F.content self.old.file) (F.synced self.old.file) self.old.failed self.old.hasher l
+            → IsLogOf (F.model self.old.file) self.old.failed self.old.hasher l
             → (m : Life) × DoesAppend l (drop HEAD buffer.old) result m
-            × IsLogOf (F.content self.new.file) (F.synced self.new.file) self.new.failed self.new.hasher m }
+            × IsLogOf (F.model self.new.file) self.new.failed self.new.hasher m }
         ensures body { drop HEAD buffer.new ≡ drop HEAD buffer.old }
         ensures hasher { OnOk result ((bodies : List ℕ) → Holds256 self.old.hasher bodies
             → Holds256 self.new.hasher (bodies ++ drop HEAD buffer.old)) }
@@ -120,9 +120,9 @@ impl<F: LogFile> DurableLog<F> {
     pub fn sync(&mut self) -> Result<(), LogFault>
         ensures honest { F.IsHonest self.old.file ↔ F.IsHonest self.new.file }
         ensures life { F.IsHonest self.old.file → (l : Life)
-            → IsLogOf (F.content self.old.file) (F.synced self.old.file) self.old.failed self.old.hasher l
+            → IsLogOf (F.model self.old.file) self.old.failed self.old.hasher l
             → (m : Life) × DoesSync l result m
-            × IsLogOf (F.content self.new.file) (F.synced self.new.file) self.new.failed self.new.hasher m }
+            × IsLogOf (F.model self.new.file) self.new.failed self.new.hasher m }
         ensures hasher { self.new.hasher ≡ self.old.hasher }
         ensures ok { OnOk result ((self.old.failed ≡ false) × (self.new.failed ≡ false)) }
         ensures failed { IfErr result (λ fault. (fault ≡ Device) × (self.new.failed ≡ true)

@@ -10,7 +10,8 @@ use std::marker::Model;
 
 /// A file in memory whose device fails at one call. Every other call acts on the file in memory.
 ///
-/// Reads, appends, syncs, cuts and repeated writes are counted together.
+/// Reads, appends, syncs, cuts and repeated writes are counted together. After a sync that failed, no
+/// later one reaches what that one left, as on a disk.
 #[derive(Drop)]
 pub struct FaultyFile {
     inner: MemoryFile,
@@ -34,8 +35,8 @@ impl Model for FaultyFile {
 
 impl FaultyFile {
     /// A file over this one, whose device fails at call number `at`, counted from 1, or never if `at`
-    /// is 0. If that call is an append, it leaves at most so many of its bytes; if it is a cut, that
-    /// happens if there are some.
+    /// is 0. If that call is an append, it leaves at most `kept` of its bytes; if it is a sync, at most
+    /// `kept` of the bytes that weren't synced are; if it is a cut, that happens if `kept` isn't 0.
     pub fn new(inner: MemoryFile, at: u64, kept: usize) -> FaultyFile
         ensures { result ≡ record { inner = inner; at = at; kept = kept; failed = false } }
     {
@@ -74,9 +75,13 @@ fn failure<T: Drop>() -> io::Result<T>
 }
 
 impl LogFile for FaultyFile {
-    ghost content = { λ f. f.inner.content };
+    ghost use Rattle.sb_log.specs.LogFiles.{LogFileOf};
 
-    ghost synced = { λ f. f.inner.synced };
+    ghost model = { λ f. record {
+      content = f.inner.content;
+      synced = f.inner.synced;
+      syncable = f.inner.syncable;
+    } };
 
     ghost IsHonest = { λ f. Unit {0} };
 
@@ -100,6 +105,7 @@ impl LogFile for FaultyFile {
 
     fn sync(&mut self) -> io::Result<()> {
         if self.fails() {
+            self.inner.lose_track(self.kept);
             return failure();
         }
         self.inner.sync()

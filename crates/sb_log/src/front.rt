@@ -38,9 +38,9 @@ pub(crate) fn read_front<F: LogFile>(
     buffer: &mut Vec<u8>,
 ) -> Result<Front, LogFault>
     requires { at < 2 ^ 63 }
-    ensures file { Stays F.IsHonest F.content F.synced file.old file.new }
+    ensures file { Stays F.IsHonest F.model file.old file.new }
     ensures front { F.IsHonest file.old → (before : List ℕ) → Holds256 hasher.old before
-        → IfOk result (λ front. IsFront before (drop at (F.content file.old)) front buffer.new.items hasher.new) }
+        → IfOk result (λ front. IsFront before (drop at (F.model file.old).content) front buffer.new.items hasher.new) }
     // Whatever the file holds, the digest goes on by what was read of it.
     ensures hasher { (before : List ℕ) → Holds256 hasher.old before
         → IfOk result (λ front. HashesFront before front buffer.new.items hasher.new) }
@@ -48,7 +48,7 @@ pub(crate) fn read_front<F: LogFile>(
         → (HEAD ≤ length buffer.new.items) × (length buffer.new.items < HEAD + 2 ^ 32)) }
     ensures fault { IfErr result (λ fault. (fault ≡ Device) ⊎ (fault ≡ OutOfMemory)) }
     ensures device { IsErrOf result Device
-        → HasFailed (F.has_failed file.new) (F.IsHonest file.old) (F.content file.old) }
+        → HasFailed (F.has_failed file.new) (F.IsHonest file.old) (F.model file.old).content }
 {
     buffer.clear();
     file.read_at(at, HEAD, buffer)?;
@@ -84,13 +84,13 @@ pub(crate) fn count_rest<F: LogFile>(
     piece: &mut Vec<u8>,
 ) -> Result<(usize, bool), LogFault>
     requires { at < 2 ^ 63 }
-    ensures file { Stays F.IsHonest F.content F.synced file.old file.new }
-    ensures size { F.IsHonest file.old → IfOk result (λ rest. rest.0 ≡ length (drop at (F.content file.old))) }
+    ensures file { Stays F.IsHonest F.model file.old file.new }
+    ensures size { F.IsHonest file.old → IfOk result (λ rest. rest.0 ≡ length (drop at (F.model file.old).content)) }
     ensures blank { F.IsHonest file.old →
-        IfOk result (λ rest. IsTrue rest.1 ↔ All (λ byte. byte ≡ 0) (drop at (F.content file.old))) }
+        IfOk result (λ rest. IsTrue rest.1 ↔ All (λ byte. byte ≡ 0) (drop at (F.model file.old).content)) }
     ensures fault { IfErr result (λ fault. (fault ≡ Device) ⊎ (fault ≡ OutOfMemory)) }
     ensures device { IsErrOf result Device
-        → HasFailed (F.has_failed file.new) (F.IsHonest file.old) (F.content file.old) }
+        → HasFailed (F.has_failed file.new) (F.IsHonest file.old) (F.model file.old).content }
 {
     let mut size = 0;
     let mut blank = true;

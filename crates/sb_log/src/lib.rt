@@ -16,6 +16,7 @@ mod record;
 mod recovery;
 mod replay;
 mod system_file;
+mod truncation;
 
 pub use creation::create_log;
 pub use durable_log::DurableLog;
@@ -30,3 +31,4 @@ pub use record::{HEAD, with_body, write_head};
 pub use recovery::recover;
 pub use replay::{Replay, ReplayFault};
 pub use system_file::{Reason, SystemFile};
+pub use truncation::truncate_and_sync;

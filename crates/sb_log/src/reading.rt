@@ -33,13 +33,13 @@ pub fn read_log<F: LogFile, T: Replay>(
     file: &mut F,
     replay: &mut T,
 ) -> Result<LogEnd, LogFault>
-    ensures file { Stays F.IsHonest F.content F.synced file.old file.new }
+    ensures file { Stays F.IsHonest F.model file.old file.new }
     ensures read { F.IsHonest file.old
-        → ReadsLog T.Replays T.Refuses (F.content file.old) replay.old result replay.new }
+        → ReadsLog T.Replays T.Refuses (F.model file.old).content replay.old result replay.new }
     // Whatever the file holds, the hasher holds what was replayed.
     ensures replayed { IfOk result (λ end. HoldsReplayed T.Replays replay.old end.hasher replay.new) }
     ensures device { IsErrOf result Device
-        → HasFailed (F.has_failed file.new) (F.IsHonest file.old) (F.content file.old) }
+        → HasFailed (F.has_failed file.new) (F.IsHonest file.old) (F.model file.old).content }
 {
     let mut buffer = Vec::new(alloc);
     let mut hasher = Sha256::new();
@@ -82,13 +82,13 @@ fn replay_record<F: LogFile, T: Replay>(
 ) -> Result<(), LogFault>
     requires place { at < 2 ^ 63 }
     requires head { HEAD ≤ length buffer.old.items }
-    ensures file { Stays F.IsHonest F.content F.synced file.old file.new }
+    ensures file { Stays F.IsHonest F.model file.old file.new }
     ensures replayed { OnOk result (T.Replays replay.old (drop HEAD buffer.old.items) replay.new) }
     ensures record { OnOk result (buffer.new.items ≡ buffer.old.items) }
-    ensures fault { IfErr result (IsRefusalAt (F.IsHonest file.old) (F.content file.old) at
+    ensures fault { IfErr result (IsRefusalAt (F.IsHonest file.old) (F.model file.old).content at
         (T.Refuses replay.old (drop HEAD buffer.old.items))) }
     ensures device { IsErrOf result Device
-        → HasFailed (F.has_failed file.new) (F.IsHonest file.old) (F.content file.old) }
+        → HasFailed (F.has_failed file.new) (F.IsHonest file.old) (F.model file.old).content }
 {
     match replay.replay(&buffer[HEAD..]) {
         Ok(()) => Ok(()),

@@ -5,7 +5,7 @@ ghost use Rattle.sb_log.specs.LogFiles.{failed_after_read};
 use crate::front::PIECE;
 use crate::log_fault::LogFault;
 use crate::log_file::LogFile;
-use sb_text::ReadFault;
+use sb_text::{READS, ReadFault};
 use std::alloc::Global;
 use std::cell::Cell;
 use std::fs::{File, OpenOptions, TryLockError};
@@ -40,8 +40,9 @@ impl Reason {
 
 /// A file of the system. It is read in pieces.
 ///
-/// Nothing is promised about what it holds. That is up to the system, and no contract describes its
-/// files.
+/// No contract of std says what a file of the system holds, so nothing is claimed of it here. Each
+/// function that is proved for every honest file runs on this one, and can't tell it from others;
+/// that it is honest is the premise. Each method hands its call to one call of the system.
 #[derive(Drop)]
 pub struct SystemFile<'a> {
     file: File,
@@ -142,6 +143,19 @@ fn open_locked(
     Ok(Some(file))
 }
 
+// What one read gives. An interrupted read is repeated.
+fn read_some(file: &mut File, chunk: &mut [u8]) -> io::Result<usize>
+    ensures { IfOk result (λ count. count ≤ length chunk.new) }
+{
+    for _ in 0..READS {
+        match file.read(chunk) {
+            Err(error) if error.kind() == ErrorKind::Interrupted => {}
+            done => return done,
+        }
+    }
+    Err(io::Error::from(ErrorKind::Interrupted))
+}
+
 impl<'a> SystemFile<'a> {
     // Has the bytes from a place on in the piece, as far as one read gives them.
     fn fill(&mut self, at: usize) -> io::Result<()>
@@ -154,7 +168,7 @@ impl<'a> SystemFile<'a> {
         self.at_end = false;
         self.file.seek(SeekFrom::Start(at as u64))?;
         let mut chunk = [0u8; PIECE];
-        let count = self.file.read(&mut chunk)?;
+        let count = read_some(&mut self.file, &mut chunk)?;
         self.piece_at = at;
         if self.piece.extend_from_slice(&chunk[..count]).is_err() {
             return Err(io::Error::from(ErrorKind::OutOfMemory));
@@ -203,9 +217,9 @@ impl<'a> SystemFile<'a> {
 }
 
 impl<'a> LogFile for SystemFile<'a> {
-    ghost content = { λ file. [] };
+    ghost use Rattle.sb_log.specs.LogFiles.{LogFileOf};
 
-    ghost synced = { λ file. 0 };
+    ghost model = { λ file. record { content = []; synced = 0; syncable = 0 } };
 
     // No contract says what a file holds, so nothing is claimed of it.
     ghost IsHonest = { λ file. ⊥ };

@@ -7,9 +7,9 @@ use Rattle.sb_log.proofs.front.count_rest.Goals.{then-blank, else-blank}
 
 pub returns-then-is_empty-clause-size : goal.returns-then-is_empty-clause-size
 returns-then-is_empty-clause-size g c honest =
-    let content = g.F.LogFile.content c.args.file.now in
+    let content = (g.F.LogFile.model c.args.file.now).content in
     let here = c.loop.invariant.file.honest.0 honest in
-    let piece = piece_is (g.F.LogFile.content c.loop.file) content c.clear.new.self.items c.read_at.new.out.items c.args.at c.loop.size 65536
+    let piece = piece_is (g.F.LogFile.model c.loop.file).content content c.clear.new.self.items c.read_at.new.out.items c.args.at c.loop.size 65536
     (c.loop.invariant.file.content_is honest) c.clear.ensures.items (c.in_ok-read_at.ensures.read here) in
     let none : c.read_at.new.out.len ≡ 0 = eqb-true _ _ (sym c.is_empty.ensures ∙ c.if-is_empty.true) in
     (all_counted (drop c.args.at content) c.loop.size 65536 c.loop.blank (c.loop.invariant.counted honest) (omega arith)
@@ -17,9 +17,9 @@ returns-then-is_empty-clause-size g c honest =
 
 pub returns-then-is_empty-clause-blank : goal.returns-then-is_empty-clause-blank
 returns-then-is_empty-clause-blank g c honest =
-    let content = g.F.LogFile.content c.args.file.now in
+    let content = (g.F.LogFile.model c.args.file.now).content in
     let here = c.loop.invariant.file.honest.0 honest in
-    let piece = piece_is (g.F.LogFile.content c.loop.file) content c.clear.new.self.items c.read_at.new.out.items c.args.at c.loop.size 65536
+    let piece = piece_is (g.F.LogFile.model c.loop.file).content content c.clear.new.self.items c.read_at.new.out.items c.args.at c.loop.size 65536
     (c.loop.invariant.file.content_is honest) c.clear.ensures.items (c.in_ok-read_at.ensures.read here) in
     let none : c.read_at.new.out.len ≡ 0 = eqb-true _ _ (sym c.is_empty.ensures ∙ c.if-is_empty.true) in
     (all_counted (drop c.args.at content) c.loop.size 65536 c.loop.blank (c.loop.invariant.counted honest) (omega arith)
@@ -36,14 +36,14 @@ loop-preserved g c =
     let few : c.len-size.result ≤ 65536 =
     omega (arith, most.1, ap length most.2, length-append c.clear.new.self.items most.0, ap length c.clear.ensures.items, len) in
     record {
-      file = stays_then g.F.LogFile.IsHonest g.F.LogFile.content g.F.LogFile.synced c.args.file.now c.loop.file c.read_at.new.self
+      file = stays_then g.F.LogFile.IsHonest g.F.LogFile.model c.args.file.now c.loop.file c.read_at.new.self
           c.loop.invariant.file c.read_at.ensures.file;
       counter = omega (arith, some, len, c.read_at.new.out.ok.0);
       bound = omega (arith, few);
       counted = λ honest.
-          let content = g.F.LogFile.content c.args.file.now in
+          let content = (g.F.LogFile.model c.args.file.now).content in
           let here = c.loop.invariant.file.honest.0 honest in
-          let piece = piece_is (g.F.LogFile.content c.loop.file) content c.clear.new.self.items c.read_at.new.out.items c.args.at c.loop.size 65536
+          let piece = piece_is (g.F.LogFile.model c.loop.file).content content c.clear.new.self.items c.read_at.new.out.items c.args.at c.loop.size 65536
           (c.loop.invariant.file.content_is honest) c.clear.ensures.items (c.in_ok-read_at.ensures.read here) in
           let both : IsTrue c.if-blank.blank ↔ (IsTrue c.loop.blank × IsBlank c.read_at.new.out.items) = elim c.if-blank.branch [
             | then-blank w ↦ (

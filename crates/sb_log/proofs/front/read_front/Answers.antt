@@ -18,13 +18,13 @@ returns-in_err-size-2-clause-device g c err =
 
 pub returns-then-blank-clause-front : goal.returns-then-blank-clause-front
 returns-then-blank-clause-front g c honest before holds =
-    let content = g.F.LogFile.content c.args.file.now in
+    let content = (g.F.LogFile.model c.args.file.now).content in
     let rest = drop c.args.at content in
     let first : c.deref.result.now ≡ take 40 rest =
     first_read content c.clear.new.self.items c.read_at.new.out.items c.deref.result.now c.args.at c.clear.ensures.items
     (c.in_ok-read_at.ensures.read honest) c.deref.ensures.value in
     let none : StatesNone rest = none_stated rest c.deref.result.now first c.in_default.ensures in
-    let same : drop c.args.at (g.F.LogFile.content c.read_at.new.self) ≡ rest = ap (drop c.args.at) (c.read_at.ensures.file.content_is honest) in
+    let same : drop c.args.at (g.F.LogFile.model c.read_at.new.self).content ≡ rest = ap (drop c.args.at) (c.read_at.ensures.file.content_is honest) in
     let there = c.read_at.ensures.file.honest.0 honest in (
       inr (subst IsBlank same ((c.in_ok-size.ensures.blank there).0 c.if-blank.true)),
       c.in_ok-size.ensures.size there ∙ ap length same,
@@ -34,13 +34,13 @@ returns-then-blank-clause-front g c honest before holds =
 
 pub returns-else-blank-clause-front : goal.returns-else-blank-clause-front
 returns-else-blank-clause-front g c honest before holds =
-    let content = g.F.LogFile.content c.args.file.now in
+    let content = (g.F.LogFile.model c.args.file.now).content in
     let rest = drop c.args.at content in
     let first : c.deref.result.now ≡ take 40 rest =
     first_read content c.clear.new.self.items c.read_at.new.out.items c.deref.result.now c.args.at c.clear.ensures.items
     (c.in_ok-read_at.ensures.read honest) c.deref.ensures.value in
     let none : StatesNone rest = none_stated rest c.deref.result.now first c.in_default.ensures in
-    let same : drop c.args.at (g.F.LogFile.content c.read_at.new.self) ≡ rest = ap (drop c.args.at) (c.read_at.ensures.file.content_is honest) in
+    let same : drop c.args.at (g.F.LogFile.model c.read_at.new.self).content ≡ rest = ap (drop c.args.at) (c.read_at.ensures.file.content_is honest) in
     let there = c.read_at.ensures.file.honest.0 honest in (
       not_torn_stated rest none
           (λ blank. true≢false (sym ((c.in_ok-size.ensures.blank there).1 (subst IsBlank (sym same) blank)) ∙ c.if-blank.false)),
@@ -50,7 +50,7 @@ returns-else-blank-clause-front g c honest before holds =
 
 pub returns-then-len-lt-HEAD-clause-front : goal.returns-then-len-lt-HEAD-clause-front
 returns-then-len-lt-HEAD-clause-front g c honest before holds =
-    let content = g.F.LogFile.content c.args.file.now in
+    let content = (g.F.LogFile.model c.args.file.now).content in
     let rest = drop c.args.at content in
     let read = c.deref.result.now in
     let first : read ≡ take 40 rest =
@@ -66,7 +66,7 @@ returns-then-len-lt-HEAD-clause-front g c honest before holds =
 
 pub returns-then-len-size-clause-front : goal.returns-then-len-size-clause-front
 returns-then-len-size-clause-front g c honest before holds =
-    let content = g.F.LogFile.content c.args.file.now in
+    let content = (g.F.LogFile.model c.args.file.now).content in
     let rest = drop c.args.at content in
     let size = c.in-Some.size in
     let first : c.deref.result.now ≡ take 40 rest =
@@ -75,7 +75,7 @@ returns-then-len-size-clause-front g c honest before holds =
     let begins = stated rest c.deref.result.now size first c.in-Some.ensures in
     let read = c.read_at-2.new.out.items in
     let bytes : read ≡ take (40 + size) rest =
-    second_read content (g.F.LogFile.content c.read_at.new.self) c.read_at.new.out.items read read c.args.at size
+    second_read content (g.F.LogFile.model c.read_at.new.self).content c.read_at.new.out.items read read c.args.at size
     (c.read_at.ensures.file.content_is honest) (sym c.deref.ensures.value ∙ first)
     (c.in_ok-read_at-2.ensures.read (c.read_at.ensures.file.honest.0 honest)) refl in
     let len : c.len-then-len-size.result ≡ length read = c.len-then-len-size.ensures ∙ c.read_at-2.new.out.ok.0 in
@@ -86,7 +86,7 @@ returns-then-len-size-clause-front g c honest before holds =
 
 pub returns-then-not-are_same-clause-front : goal.returns-then-not-are_same-clause-front
 returns-then-not-are_same-clause-front g c honest before holds =
-    let content = g.F.LogFile.content c.args.file.now in
+    let content = (g.F.LogFile.model c.args.file.now).content in
     let rest = drop c.args.at content in
     let size = c.in-Some.size in
     let first : c.deref.result.now ≡ take 40 rest =
@@ -95,7 +95,7 @@ returns-then-not-are_same-clause-front g c honest before holds =
     let begins = stated rest c.deref.result.now size first c.in-Some.ensures in
     let read = c.read_at-2.new.out.items in
     let bytes : read ≡ take (40 + size) rest =
-    second_read content (g.F.LogFile.content c.read_at.new.self) c.read_at.new.out.items read read c.args.at size
+    second_read content (g.F.LogFile.model c.read_at.new.self).content c.read_at.new.out.items read read c.args.at size
     (c.read_at.ensures.file.content_is honest) (sym c.deref.ensures.value ∙ first)
     (c.in_ok-read_at-2.ensures.read (c.read_at.ensures.file.honest.0 honest)) refl in
     let head : 40 ≤ length rest =
@@ -109,14 +109,14 @@ returns-then-not-are_same-clause-front g c honest before holds =
     let bad = bad_digest before rest read size bytes long (omega arith) begins
     (λ same.
     true≢false (sym (c.are_same.ensures.1 (ap (λ (l : List ℕ). take 32 (drop 8 l)) c.deref-3.ensures.value ∙ same ∙ sym digest)) ∙ c.if-not-are_same.true)) in
-    let same : drop c.args.at (g.F.LogFile.content c.read_at-2.new.self) ≡ rest =
+    let same : drop c.args.at (g.F.LogFile.model c.read_at-2.new.self).content ≡ rest =
     ap (drop c.args.at) (c.read_at-2.ensures.file.content_is (c.read_at.ensures.file.honest.0 honest) ∙ c.read_at.ensures.file.content_is honest) in
     let there = c.read_at-2.ensures.file.honest.0 (c.read_at.ensures.file.honest.0 honest) in
     (bad.0, c.in_ok-size-2.ensures.size there ∙ ap length same, bad.1)
 
 pub returns-clause-front : goal.returns-clause-front
 returns-clause-front g c honest before holds =
-    let content = g.F.LogFile.content c.args.file.now in
+    let content = (g.F.LogFile.model c.args.file.now).content in
     let rest = drop c.args.at content in
     let size = c.in-Some.size in
     let first : c.deref.result.now ≡ take 40 rest =
@@ -125,7 +125,7 @@ returns-clause-front g c honest before holds =
     let begins = stated rest c.deref.result.now size first c.in-Some.ensures in
     let read = c.read_at-2.new.out.items in
     let bytes : read ≡ take (40 + size) rest =
-    second_read content (g.F.LogFile.content c.read_at.new.self) c.read_at.new.out.items read read c.args.at size
+    second_read content (g.F.LogFile.model c.read_at.new.self).content c.read_at.new.out.items read read c.args.at size
     (c.read_at.ensures.file.content_is honest) (sym c.deref.ensures.value ∙ first)
     (c.in_ok-read_at-2.ensures.read (c.read_at.ensures.file.honest.0 honest)) refl in
     let head : 40 ≤ length rest =

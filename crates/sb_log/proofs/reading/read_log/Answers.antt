@@ -25,20 +25,21 @@ returns-in_err-replay_record-in-Record-clause-device g c err =
 
 pub returns-in_err-replay_record-in-Record-clause-read : goal.returns-in_err-replay_record-in-Record-clause-read
 returns-in_err-replay_record-in-Record-clause-read g c honest =
-    let content = g.F.LogFile.content c.args.file.now in
+    let content = (g.F.LogFile.model c.args.file.now).content in
     let here = c.loop.invariant.file.honest.0 honest in
     let there = c.read_front.ensures.file.honest.0 here in
     let s = c.loop.invariant.so_far honest in
-    let same : drop c.loop.records (g.F.LogFile.content c.loop.file) ≡ drop c.loop.records content = ap (drop c.loop.records)
+    let same : drop c.loop.records (g.F.LogFile.model c.loop.file).content ≡ drop c.loop.records content = ap (drop c.loop.records)
     (c.loop.invariant.file.content_is honest) in
     let front = subst (λ (f : Front). IsFront (body_bytes s.bodies) (drop c.loop.records
-    (g.F.LogFile.content c.loop.file)) f c.read_front.new.buffer.items c.read_front.new.hasher)
+    (g.F.LogFile.model c.loop.file).content) f c.read_front.new.buffer.items c.read_front.new.hasher)
     c.in-Record.is (c.in_ok-read_front.ensures.front here (body_bytes s.bodies) s.holds) in
     let fault = c.in_err-replay_record-in-Record.field-0.0 in
     let known : c.from_residual-in_err-replay_record-in-Record.result ≡ Err fault =
     err_is _ fault c.from_residual-in_err-replay_record-in-Record.ensures.0 c.from_residual-in_err-replay_record-in-Record.ensures.1 in
     let body_is : drop 40 c.read_front.new.buffer.items ≡ front.0 = ap (drop 40) front.3 ∙ body_in (body_bytes s.bodies) front.0 in
-    let unchanged : g.F.LogFile.content c.read_front.new.file ≡ content = c.read_front.ensures.file.content_is here ∙ c.loop.invariant.file.content_is honest in
+    let unchanged : (g.F.LogFile.model c.read_front.new.file).content ≡ content =
+    c.read_front.ensures.file.content_is here ∙ c.loop.invariant.file.content_is honest in
     let Honest = g.F.LogFile.IsHonest c.read_front.new.file in
     let refusal : IsRefusalAt Honest content c.loop.records (g.T.Replay.Refuses c.loop.replay front.0) fault =
     subst (λ (body : List ℕ). IsRefusalAt Honest content c.loop.records (g.T.Replay.Refuses c.loop.replay body) fault) body_is
@@ -50,13 +51,13 @@ returns-in_err-replay_record-in-Record-clause-read g c honest =
 
 pub returns-in-Damaged-clause-read : goal.returns-in-Damaged-clause-read
 returns-in-Damaged-clause-read g c honest =
-    let content = g.F.LogFile.content c.args.file.now in
+    let content = (g.F.LogFile.model c.args.file.now).content in
     let here = c.loop.invariant.file.honest.0 honest in
     let s = c.loop.invariant.so_far honest in
     let rest = drop c.loop.records content in
-    let same : drop c.loop.records (g.F.LogFile.content c.loop.file) ≡ rest = ap (drop c.loop.records) (c.loop.invariant.file.content_is honest) in
+    let same : drop c.loop.records (g.F.LogFile.model c.loop.file).content ≡ rest = ap (drop c.loop.records) (c.loop.invariant.file.content_is honest) in
     let front = subst (λ (f : Front). IsFront (body_bytes s.bodies) (drop c.loop.records
-    (g.F.LogFile.content c.loop.file)) f c.read_front.new.buffer.items c.read_front.new.hasher)
+    (g.F.LogFile.model c.loop.file).content) f c.read_front.new.buffer.items c.read_front.new.hasher)
     c.in-Damaged.is (c.in_ok-read_front.ensures.front here (body_bytes s.bodies) s.holds) in
     let none = subst (HasNoRecord (body_bytes s.bodies)) same front.2 in
     subst (λ (fault : LogFault). ReadsLog g.T.Replay.Replays g.T.Replay.Refuses content c.args.replay.now (Err fault) c.loop.replay) (sym c.damage.ensures)
@@ -81,9 +82,9 @@ loop-preserved g c =
     let len : length c.read_front.new.buffer.items ≡ c.len-records.result =
     ap length (sym record_same) ∙ sym c.replay_record.new.buffer.ok.0 ∙ sym c.len-records.ensures in
     record {
-      file = stays_then g.F.LogFile.IsHonest g.F.LogFile.content g.F.LogFile.synced c.args.file.now c.loop.file c.replay_record.new.file
+      file = stays_then g.F.LogFile.IsHonest g.F.LogFile.model c.args.file.now c.loop.file c.replay_record.new.file
           c.loop.invariant.file
-          (stays_then g.F.LogFile.IsHonest g.F.LogFile.content g.F.LogFile.synced c.loop.file c.read_front.new.file c.replay_record.new.file
+          (stays_then g.F.LogFile.IsHonest g.F.LogFile.model c.loop.file c.read_front.new.file c.replay_record.new.file
           c.read_front.ensures.file c.replay_record.ensures.file);
       counter = omega (arith, size.0, len, c.loop.invariant.counter);
       bound = omega (arith, size.1, len, c.loop.invariant.bound);
@@ -94,13 +95,13 @@ loop-preserved g c =
           (c.in_ok-read_front.ensures.hasher (body_bytes c.loop.invariant.replays.bodies) c.loop.invariant.replays.holds))
           c.in_ok-replay_record-in-Record.ensures.replayed;
       so_far = λ honest.
-          let content = g.F.LogFile.content c.args.file.now in
+          let content = (g.F.LogFile.model c.args.file.now).content in
           let here = c.loop.invariant.file.honest.0 honest in
           let s = c.loop.invariant.so_far honest in
-          let same : drop c.loop.records (g.F.LogFile.content c.loop.file) ≡ drop c.loop.records content = ap (drop c.loop.records)
+          let same : drop c.loop.records (g.F.LogFile.model c.loop.file).content ≡ drop c.loop.records content = ap (drop c.loop.records)
           (c.loop.invariant.file.content_is honest) in
           let front = subst (λ (f : Front). IsFront (body_bytes s.bodies) (drop c.loop.records
-          (g.F.LogFile.content c.loop.file)) f c.read_front.new.buffer.items c.read_front.new.hasher)
+          (g.F.LogFile.model c.loop.file).content) f c.read_front.new.buffer.items c.read_front.new.hasher)
           c.in-Record.is (c.in_ok-read_front.ensures.front here (body_bytes s.bodies) s.holds) in
           let body_is : drop 40 c.read_front.new.buffer.items ≡ front.0 = ap (drop 40) front.3 ∙ body_in (body_bytes s.bodies) front.0 in
           subst (λ (n : ℕ). ReadSoFar g.T.Replay.Replays content c.args.replay.now (c.loop.records + n) c.read_front.new.hasher c.replay_record.new.replay) len

@@ -15,7 +15,7 @@ returns-in-Ok-clause-replayed g c =
 
 pub returns-in_ok-behind-in-Err-Refused-clause-fault : goal.returns-in_ok-behind-in-Err-Refused-clause-fault
 returns-in_ok-behind-in-Err-Refused-clause-fault g c =
-    let content = g.F.LogFile.content c.args.file.now in
+    let content = (g.F.LogFile.model c.args.file.now).content in
     let Refusal = g.T.Replay.Refuses c.args.replay.now (drop 40 c.args.buffer.now.items) in
     subst (λ (fault : LogFault). IsRefusalAt (g.F.LogFile.IsHonest c.args.file.now) content c.args.at Refusal fault) (sym c.damage.ensures) (
       subst (λ (l : List ℕ). g.T.Replay.Refuses c.args.replay.now l)
