@@ -12,6 +12,7 @@ use Rattle.sb_rows.proofs.OpeningSteps.{customers_from-nil, opening_of-fault}
 use Rattle.sb_rows.proofs.SplitAtFirstByte.{lines-nil}
 use Rattle.sb_calls.specs.declared.ask.Key.{Key}
 use Rattle.sb_calls.specs.declared.call.Call.{Call}
+use Rattle.sb_log.specs.LogFiles.{LogFileOf}
 use Rattle.sb_log.specs.Records.{records}
 use Rattle.sb_log.specs.declared.log_fault.LogFault.{LogFault}
 use Rattle.sb_log.specs.declared.log_fault.LogFault.TheVariants.{Damaged, Device, InUse, OutOfMemory}
@@ -197,12 +198,12 @@ creates_not content input text new asks rest fault none no_ask read is = by faul
     by AnotherOpening is = absurd is
 
 -- nor in a file that isn't recovered
-pub recover_fault : (content input new : List ℕ) (synced synced_new : ℕ) (fault : LogFault) → FailsToRecover content synced fault new synced_new
-    → IsFindFault content input (Log fault) new
-recover_fault content input new synced synced_new (Damaged byte behind) is = (is.0, is.1)
-recover_fault content input new synced synced_new Device is = inl is
-recover_fault content input new synced synced_new OutOfMemory is = inl is
-recover_fault content input new synced synced_new InUse is = absurd is
+pub recover_fault : (before after : LogFileOf) (input : List ℕ) (fault : LogFault) → FailsToRecover before fault after
+    → IsFindFault before.content input (Log fault) after.content
+recover_fault before after input (Damaged byte behind) is = (is.0, is.1.content_is)
+recover_fault before after input Device is = inl is
+recover_fault before after input OutOfMemory is = inl is
+recover_fault before after input InUse is = absurd is
 
 -- a log's fault again
 pub log_again : {A B : Type 0} (x y : LogFault) → ◌≡◌ {A = Result A ServeFault} (Err (Log x)) (Err (Log y)) → ◌≡◌ {A = Result B LogFault} (Err x) (Err y)

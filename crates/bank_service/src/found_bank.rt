@@ -51,14 +51,14 @@ pub fn find_bank<F: LogFile>(
     ensures honest { F.IsHonest file.old ↔ F.IsHonest file.new }
     // What is found in the file, or why nothing is, and what the file has then.
     ensures file { F.IsHonest file.old → MatchResult result
-        (λ found. FindsBank (F.content file.old) input.now found.log.text.items found.log.log.value.log found.cut)
-        (λ fault. IsFindFault (F.content file.old) input.now fault (F.content file.new)) }
+        (λ found. FindsBank (F.model file.old).content input.now found.log.text.items found.log.log.value.log found.cut)
+        (λ fault. IsFindFault (F.model file.old).content input.now fault (F.model file.new).content) }
     ensures opening { IfOk result (λ found. IsOpeningOf (whole_opening_of found.log.text.items) found.opening) }
     // Its log counts as told from now on.
-    ensures resumes { IfOk result (λ found. IsResumable F.IsHonest F.content F.synced file.new found.log.end
+    ensures resumes { IfOk result (λ found. IsResumable F.IsHonest F.model file.new found.log.end
         found.log.text.items found.log.log.value.log) }
     ensures device { IsErrOf result (Log Device)
-        → HasFailed (F.has_failed file.new) (F.IsHonest file.old) (F.content file.old) }
+        → HasFailed (F.has_failed file.new) (F.IsHonest file.old) (F.model file.old).content }
     ensures kind { IfErr result IsBankFault }
 {
     let found = recover_asks(alloc, file)?;
@@ -81,14 +81,14 @@ fn create<F: LogFile>(
     file: &mut F,
     input: &[u8],
 ) -> Result<(LogInFile, Opening), ServeFault>
-    requires empty { F.IsHonest file.old → (F.content file.old ≡ []) × (F.synced file.old ≡ 0) }
+    requires empty { F.IsHonest file.old → (F.model file.old).content ≡ [] }
     ensures honest { F.IsHonest file.old ↔ F.IsHonest file.new }
     ensures log { IfOk result (λ made. (made.0.text.items ≡ with_line_end input.now) × (made.0.log.value.log ≡ [])) }
     ensures opening { IfOk result (λ made. IsOpeningOf (whole_opening_of made.0.text.items) made.1) }
-    ensures resumes { IfOk result (λ made. IsResumable F.IsHonest F.content F.synced file.new made.0.end
+    ensures resumes { IfOk result (λ made. IsResumable F.IsHonest F.model file.new made.0.end
         made.0.text.items made.0.log.value.log) }
     ensures fault { F.IsHonest file.old → IfErr result (λ fault.
-        IsCreateFault (with_line_end input.now) fault (F.content file.new)) }
+        IsCreateFault (with_line_end input.now) fault (F.model file.new).content) }
     ensures device { IsErrOf result (Log Device) → F.has_failed file.new ≡ true }
     ensures kind { IfErr result IsBankFault }
 {

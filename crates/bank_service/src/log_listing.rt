@@ -52,12 +52,12 @@ pub fn list_log<F: LogFile, W: Write>(
     listing: Listing,
     writer: &mut W,
 ) -> Result<(), ListFault>
-    ensures file { Stays F.IsHonest F.content F.synced file.old file.new }
+    ensures file { Stays F.IsHonest F.model file.old file.new }
     ensures listed { F.IsHonest file.old → OnOk result ((text : List ℕ) × (log : List (AnyKey × AnyCall)) ×
         (rest : List ℕ)
-        × ReadsAskLog (F.content file.old) text log rest × (listed : List ℕ) × IsListing listing text log listed
+        × ReadsAskLog (F.model file.old).content text log rest × (listed : List ℕ) × IsListing listing text log listed
         × Appends (W.contents writer.old) (W.contents writer.new) listed) }
-    ensures fault { F.IsHonest file.old → IfErr result (IsListFault (F.content file.old)) }
+    ensures fault { F.IsHonest file.old → IfErr result (IsListFault (F.model file.old).content) }
     ensures kind { IfErr result IsListingFault }
     ensures unwritten { IfErr result (λ fault. LeavesListing fault (W.contents writer.old) (W.contents writer.new)) }
 {

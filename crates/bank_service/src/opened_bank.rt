@@ -21,11 +21,11 @@ pub fn open_on_file<F: LogFile, S: CheckpointStore>(
     found: FoundBank,
     store: S,
 ) -> Result<Primary<S, AskLog<F>>, AllocError>
-    requires { IsResumable F.IsHonest F.content F.synced file found.log.end found.log.text.items
+    requires { IsResumable F.IsHonest F.model file found.log.end found.log.text.items
         found.log.log.value.log }
     ensures opened { IfOk result (IsBankOn found.log.text.items found.log.log.value.log found.opening store file) }
     ensures kept { IfOk result (λ bank.
-        KeepsAsks F.IsHonest F.content F.synced bank.keeper found.log.log.value.log) }
+        KeepsAsks F.IsHonest F.model bank.keeper found.log.log.value.log) }
     ensures no_entries { IfOk result (λ bank. HasNoEntries bank.node.board) }
 {
     let FoundBank { log, opening, .. } = found;

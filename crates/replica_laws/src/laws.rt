@@ -72,5 +72,5 @@ pub fn asks_append()
 /// can sync; and whatever a stop leaves of the file, a start reads the log of that machine after some
 /// crash.
 pub fn keeping_syncs<F: LogFile>()
-    ensures { KeepingSyncs F.IsHonest F.content F.synced }
+    ensures { KeepingSyncs F.IsHonest F.model }
 {}

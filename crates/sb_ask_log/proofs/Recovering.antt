@@ -1,5 +1,5 @@
 -- What is read of a log's file.
-use Rattle.std.proofs.Common.{◌≡◌, ◌≢◌, ◌⊎◌, ℕ, max, false, true, List, [], ◌∷◌, ◌++◌, Result, Err, length, map, take, refl, sym, ap, subst, ◌∙◌, inl, inr, ⊎_elim, append_assoc, append-nil}
+use Rattle.std.proofs.Common.{◌≡◌, ◌≢◌, ◌⊎◌, ℕ, ◌+◌, max, false, true, List, [], ◌∷◌, ◌++◌, Result, Err, length, map, take, refl, sym, ap, subst, ◌∙◌, inl, inr, ⊎_elim, arith, rules, append_assoc, append-nil, length-append}
 use Rattle.std.specs.List.{All}
 use Rattle.std.proofs.lemmas.List.Elements.{All-head, All-tail}
 use Rattle.sha2.specs.Hashers.{Holds256}
@@ -8,6 +8,7 @@ use Rattle.sb_calls.specs.declared.ask.Key.{Key}
 use Rattle.sb_calls.specs.declared.call.Call.{Call}
 use Rattle.sb_log.specs.Lives.{Append, Crash, Cut, Happens, HappensAll, Life, ReadBack, Sync, newborn}
 use Rattle.sb_log.specs.LogCalls.{IsDamagedAt, IsFileOf, ReadsLog, ReadsTo, Recovers}
+use Rattle.sb_log.specs.LogFiles.{LogFileOf}
 use Rattle.sb_log.specs.Reading.{Begins, IsTorn, ReadsRecords}
 use Rattle.sb_log.specs.Records.{IsBody, body_bytes, record_after, records}
 use Rattle.sb_log.specs.Replaying.{HoldsReplayed, ReplaysAll}
@@ -38,9 +39,13 @@ none_read (body ∷ bodies) text log read none = absurd (opening_filled text rea
 -- what was replayed
 pub read_is : (content : List ℕ) (bodies : List (List ℕ)) (rest : List ℕ) (end : LogEnd) (new : AskReplayOf)
     → ReadsTo TakesBody RefusesBody content nothing_taken bodies rest end new
-    → (left : List ℕ) × ReadsAskLog content new.text new.log left × (end.torn ≡ length left)
-read_is content bodies rest end new r =
-    (rest, record { bodies = bodies; reads = r.reads; torn = r.torn; are = taken_are bodies new r.replayed }, r.torn_is)
+    → (left : List ℕ) × ReadsAskLog content new.text new.log left × (end.torn ≡ length left) × (end.records + end.torn ≡ length content)
+read_is content bodies rest end new r = (
+  rest,
+  record { bodies = bodies; reads = r.reads; torn = r.torn; are = taken_are bodies new r.replayed },
+  r.torn_is,
+  omega (arith, r.records_is, r.torn_is, ap length r.reads.whole, length-append (records bodies) rest),
+)
 
 -- whatever file was read: the hasher holds the log
 pub read_holds : (old mid new : AskReplayOf) (hasher : Sha256) → old ≡ nothing_taken → new ≡ mid → HoldsReplayed TakesBody old hasher mid
@@ -80,30 +85,36 @@ read_fault content InUse new d = absurd d
 -- ---- what is recovered
 
 -- the life of a file, of which no more is known
-abbrev pub life_of : List ℕ → ℕ → Life
-life_of content synced = record { content = content; synced = synced; given = []; told = []; healthy = false }
+abbrev pub life_of : LogFileOf → Life
+life_of file = record { content = file.content; synced = file.synced; given = []; told = []; healthy = false }
 
-left_over : (content content_new : List ℕ) (synced synced_new : ℕ) (m : Life)
-    → (m ≡ life_of content synced) ⊎ ((bodies : List (List ℕ)) × (rest : List ℕ) × Happens (life_of content synced) (Cut bodies rest) m)
-    → IsFileOf content_new synced_new m → IsSameOrCut content content_new
-left_over content content_new synced synced_new m how is = ⊎_elim
-    (λ (same : m ≡ life_of content synced). inl (sym is.content_is ∙ ap (λ (k : Life). k.content) same))
-    (λ (cut : (bodies : List (List ℕ)) × (rest : List ℕ) × Happens (life_of content synced) (Cut bodies rest) m).
-    inr (cut.0, cut.1, cut.2.0, cut.2.1, sym is.content_is ∙ ap (λ (k : Life). k.content) cut.2.2))
+pub is_life_of : (file : LogFileOf) → IsFileOf file (life_of file)
+is_life_of file = record { content_is = refl; synced_in = omega arith; syncable_in = λ healthy. absurd (search (rules, healthy)) }
+
+left_over : (before after : LogFileOf) (n m : Life) → m ≡ record n { healthy = false }
+    → (n ≡ life_of before) ⊎ ((bodies : List (List ℕ)) × (rest : List ℕ) × Happens (life_of before) (Cut bodies rest) n)
+    → IsFileOf after m → IsSameOrCut before.content after.content
+left_over before after n m ails how is =
+    let content : after.content ≡ n.content = sym is.content_is ∙ ap (λ (k : Life). k.content) ails in
+    ⊎_elim
+    (λ (same : n ≡ life_of before). inl (content ∙ ap (λ (k : Life). k.content) same))
+    (λ (cut : (bodies : List (List ℕ)) × (rest : List ℕ) × Happens (life_of before) (Cut bodies rest) n).
+    inr (cut.0, cut.1, cut.2.0, cut.2.1, content ∙ ap (λ (k : Life). k.content) cut.2.2))
     how
 
 -- a damaged file stays, and after another fault it is the same, or its torn rest is cut off
-pub unrecovered : (content content_new : List ℕ) (synced synced_new : ℕ) (fault : LogFault) (new : AskReplayOf) (m : Life)
-    → Recovers TakesBody RefusesBody (life_of content synced) nothing_taken (Err fault) new m → IsFileOf content_new synced_new m
-    → FailsToRecover content synced fault content_new synced_new
-unrecovered content content_new synced synced_new (Damaged byte behind) new m d is = (
-  damage_is content byte behind d.0,
-  sym is.content_is ∙ ap (λ (k : Life). k.content) d.1,
-  sym is.synced_is ∙ ap (λ (k : Life). k.synced) d.1,
+pub unrecovered : (before after : LogFileOf) (fault : LogFault) (new : AskReplayOf) (m : Life)
+    → Recovers TakesBody RefusesBody (life_of before) nothing_taken (Err fault) new m → IsFileOf after m → FailsToRecover before fault after
+unrecovered before after (Damaged byte behind) new m d is = (
+  damage_is before.content byte behind d.0,
+  record {
+    content_is = sym is.content_is ∙ ap (λ (k : Life). k.content) d.1;
+    synced_in = omega (arith, is.synced_in, ap (λ (k : Life). k.synced) d.1);
+  },
 )
-unrecovered content content_new synced synced_new Device new m d is = left_over content content_new synced synced_new m d is
-unrecovered content content_new synced synced_new OutOfMemory new m d is = left_over content content_new synced synced_new m d is
-unrecovered content content_new synced synced_new InUse new m d is = absurd d
+unrecovered before after Device new m d is = left_over before after d.0 m d.1 d.2 is
+unrecovered before after OutOfMemory new m d is = left_over before after d.0 m d.1 d.2 is
+unrecovered before after InUse new m d is = absurd d
 
 -- a file to which these bodies were appended, and one that was told them
 abbrev appended : List (List ℕ) → Life
@@ -125,16 +136,16 @@ tells_all done (body ∷ bodies) fit =
           (tells_all longer bodies (All-tail IsBody body bodies fit)),
     )
 
-pub recovered_tells : (content content_new : List ℕ) (synced synced_new : ℕ) (bodies : List (List ℕ)) (rest : List ℕ) (end : LogEnd) (new : AskReplayOf)
+pub recovered_tells : (content : List ℕ) (after : LogFileOf) (bodies : List (List ℕ)) (rest : List ℕ) (end : LogEnd) (new : AskReplayOf)
     (l m : Life) → ReadsTo TakesBody RefusesBody content nothing_taken bodies rest end new → Happens l (ReadBack bodies rest) m
-    → IsFileOf content_new synced_new m → new.text ≢ [] → Tells content_new synced_new false end.hasher new.text new.log
-recovered_tells content content_new synced synced_new bodies rest end new l m r back is some =
+    → IsFileOf after m → new.text ≢ [] → Tells after false end.hasher new.text new.log
+recovered_tells content after bodies rest end new l m r back is some =
     let are = log_read bodies new.text new.log (taken_are bodies new r.replayed) some in
     record {
       l = all_told bodies;
       events = map Append bodies ++ Sync ∷ [];
       lived = tells_all [] bodies r.reads.fit;
-      file = record { file = subst (IsFileOf content_new synced_new) back.2 is; healthy_is = refl; holds = λ f. r.holds };
+      file = record { file = subst (IsFileOf after) back.2 is; healthy_is = refl; holds = λ f. r.holds };
       told_are = are;
       given = new.log;
       given_are = are;
@@ -142,10 +153,10 @@ recovered_tells content content_new synced synced_new bodies rest end new l m r 
     }
 
 -- what was replayed; the file has the records that were read, and nothing behind them
-pub recovered_is : (content content_new : List ℕ) (synced_new : ℕ) (bodies : List (List ℕ)) (rest : List ℕ) (end : LogEnd) (new : AskReplayOf)
+pub recovered_is : (content : List ℕ) (after : LogFileOf) (bodies : List (List ℕ)) (rest : List ℕ) (end : LogEnd) (new : AskReplayOf)
     (l m : Life) → ReadsTo TakesBody RefusesBody content nothing_taken bodies rest end new → Happens l (ReadBack bodies rest) m
-    → IsFileOf content_new synced_new m → RecoversAsks content new.text new.log end.torn content_new synced_new
-recovered_is content content_new synced_new bodies rest end new l m r back is =
+    → IsFileOf after m → RecoversAsks content new.text new.log end.torn after.content
+recovered_is content after bodies rest end new l m r back is =
     let are : AreRead bodies new.text new.log = taken_are bodies new r.replayed in
     record {
       rest = rest;
@@ -155,7 +166,7 @@ recovered_is content content_new synced_new bodies rest end new l m r back is =
       empty = λ none.
           let no = none_read bodies new.text new.log are none in
           let m_is : m ≡ all_told [] = back.2 ∙ ap all_told no.0 in
-          (sym is.content_is ∙ ap (λ (k : Life). k.content) m_is, sym is.synced_is ∙ ap (λ (k : Life). k.synced) m_is, no.1);
+          (sym is.content_is ∙ ap (λ (k : Life). k.content) m_is, no.1);
     }
 
 -- ---- what was told is read
@@ -169,14 +180,17 @@ read_behind told [] text read_text asks read are begins it =
 read_behind told (body ∷ bodies) text read_text asks read are begins it = it
 
 pub recovers_what_it_told : RecoversWhatItTold
-recovers_what_it_told content synced failed hasher text told tells kept read_text read rest reads =
+recovers_what_it_told now failed hasher text told tells kept read_text read rest reads =
     let l = tells.l in
-    let crashed : Life = record l { content = take (max l.synced kept) l.content; healthy = false } in
-    let left : take (max synced kept) content ≡ crashed.content =
-    λ i. take (max (sym tells.file.file.synced_is i) kept) (sym tells.file.file.content_is i) in
-    let begins = keeps_what_it_told (tells.events ++ Crash kept ∷ []) crashed reads.bodies rest
-    (happens_more tells.events newborn l crashed (Crash kept) tells.lived refl)
-    (subst (λ (c : List ℕ). ReadsRecords c reads.bodies rest) left reads.reads) in
+    -- what the file has synced beyond the life's claim counts as kept
+    let left = max now.synced kept in
+    let crashed : Life = record l { content = take (max l.synced left) l.content; healthy = false } in
+    let content : take left now.content ≡ crashed.content =
+    ap (λ (n : ℕ). take n now.content) (omega (arith, tells.file.file.synced_in))
+    ∙ ap (λ (c : List ℕ). take (max l.synced left) c) (sym tells.file.file.content_is) in
+    let begins = keeps_what_it_told (tells.events ++ Crash left ∷ []) crashed reads.bodies rest
+    (happens_more tells.events newborn l crashed (Crash left) tells.lived refl)
+    (subst (λ (c : List ℕ). ReadsRecords c reads.bodies rest) content reads.reads) in
     bodies_begin l.told reads.bodies text read_text told read tells.told_are
     (read_behind l.told reads.bodies text read_text told read tells.told_are begins.0 reads.are) begins.0
 

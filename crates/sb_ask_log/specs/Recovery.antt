@@ -2,6 +2,7 @@
 use Rattle.std.specs.Prelude.{◌≡◌, ◌⊎◌, ℕ, Bool, true, List, [], ◌∷◌, ◌++◌, length, take}
 use Rattle.sb_calls.specs.declared.ask.Key.{Key}
 use Rattle.sb_calls.specs.declared.call.Call.{Call}
+use Rattle.sb_log.specs.LogFiles.{KeepsSynced, LogFileOf}
 use Rattle.sb_log.specs.Reading.{IsTorn, ReadsRecords}
 use Rattle.sb_log.specs.Records.{IsBody, body_bytes, record_after, records}
 use Rattle.sb_log.specs.declared.log_fault.LogFault.{LogFault}
@@ -53,22 +54,20 @@ HasPartOfOpening text content = (kept : ℕ) × (content ≡ take kept (record_a
 
 -- an honest file of these bytes is recovered: what is read of them is this log, the torn rest behind it is
 -- cut off, and without an opening nothing is left
-pub record RecoversAsks (old : List ℕ) (text : List ℕ) (log : List (Key × Call)) (torn : ℕ) (new : List ℕ) (synced : ℕ)
-    : Type 0 where
+pub record RecoversAsks (old text : List ℕ) (log : List (Key × Call)) (torn : ℕ) (new : List ℕ) : Type 0 where
   pub rest : List ℕ
   pub read : ReadsAskLog old text log rest
   pub torn_is : torn ≡ length rest
   pub cut : old ≡ new ++ rest
-  pub empty : text ≡ [] → (new ≡ []) × (synced ≡ 0) × (log ≡ [])
+  pub empty : text ≡ [] → (new ≡ []) × (log ≡ [])
 
--- an honest file of these bytes, so many of them synced, isn't recovered: it is damaged, and stays as it is;
--- or its device failed or memory was refused, and it stays or its torn rest is cut off
-abbrev pub FailsToRecover : List ℕ → ℕ → LogFault → List ℕ → ℕ → Type 0
-FailsToRecover old synced (Damaged byte behind) new synced_new =
-    IsDamagedAskLog old byte behind × (new ≡ old) × (synced_new ≡ synced)
-FailsToRecover old synced Device new synced_new = IsSameOrCut old new
-FailsToRecover old synced OutOfMemory new synced_new = IsSameOrCut old new
-FailsToRecover old synced InUse new synced_new = ⊥
+-- an honest file isn't recovered: it is damaged, and stays as it is; or its device failed or memory was refused,
+-- and it stays or its torn rest is cut off
+abbrev pub FailsToRecover : LogFileOf → LogFault → LogFileOf → Type 0
+FailsToRecover old (Damaged byte behind) new = IsDamagedAskLog old.content byte behind × KeepsSynced old new
+FailsToRecover old Device new = IsSameOrCut old.content new.content
+FailsToRecover old OutOfMemory new = IsSameOrCut old.content new.content
+FailsToRecover old InUse new = ⊥
 
 -- no log with this opening is made in an empty file: its device failed, or memory was refused, and an honest
 -- file has a beginning of the opening's record then

@@ -6,6 +6,7 @@ use Rattle.sb_calls.specs.declared.ask.Key.{Key}
 use Rattle.sb_calls.specs.declared.call.Call.{Call}
 use Rattle.sb_log.specs.Lives.{Event, HappensAll, Life, newborn}
 use Rattle.sb_log.specs.LogCalls.{DurableLogOf, IsLogOf}
+use Rattle.sb_log.specs.LogFiles.{LogFileOf}
 use Rattle.sb_log.specs.Reading.{Begins}
 use Rattle.sb_log.specs.declared.log_end.LogEnd.{LogEnd}
 use Rattle.sb_log.specs.declared.log_fault.LogFault.{LogFault}
@@ -21,14 +22,14 @@ pub record AskLogOf (F : Type 0) : Type 0 where
   pub hasher : Sha256
   pub saved : ℕ
 
--- after some life the file has these bytes, of which so many are synced: the log of these asks was told,
--- and unless a call failed no more was given to it
-pub record Tells (content : List ℕ) (synced : ℕ) (failed : Bool) (hasher : Sha256) (text : List ℕ)
-    (told : List (Key × Call)) : Type 0 where
+-- after some life the file is so: the log of these asks was told, and unless a call failed no more was given
+-- to it
+pub record Tells (now : LogFileOf) (failed : Bool) (hasher : Sha256) (text : List ℕ) (told : List (Key × Call))
+    : Type 0 where
   pub l : Life
   pub events : List Event
   pub lived : HappensAll newborn events l
-  pub file : IsLogOf content synced failed hasher l
+  pub file : IsLogOf now failed hasher l
   pub told_are : AreBodiesOf l.told text told
   pub given : List (Key × Call)
   pub given_are : AreBodiesOf l.given text given
@@ -37,10 +38,9 @@ pub record Tells (content : List ℕ) (synced : ℕ) (failed : Bool) (hasher : S
 -- wherever the machine stops, with so many bytes left: what is read of the file then is a log of the
 -- same opening, which begins with all asks that were told, at their places
 abbrev pub RecoversWhatItTold : Type 0
-RecoversWhatItTold = (content : List ℕ) (synced : ℕ) (failed : Bool) (hasher : Sha256) (text : List ℕ)
-    (told : List (Key × Call)) → Tells content synced failed hasher text told
-    → (kept : ℕ) (read_text : List ℕ) (read : List (Key × Call)) (rest : List ℕ)
-    → ReadsAskLog (take (max synced kept) content) read_text read rest
+RecoversWhatItTold = (now : LogFileOf) (failed : Bool) (hasher : Sha256) (text : List ℕ) (told : List (Key × Call))
+    → Tells now failed hasher text told → (kept : ℕ) (read_text : List ℕ) (read : List (Key × Call)) (rest : List ℕ)
+    → ReadsAskLog (take (max now.synced kept) now.content) read_text read rest
     → (read_text ≡ text) × Begins told read
 
 -- the rest of a log isn't saved: the device failed, now or before, and the log has failed then; or memory was
@@ -51,13 +51,13 @@ FailsToSave has_failed old Device new =
 FailsToSave has_failed old OutOfMemory new = Unit {0}
 FailsToSave has_failed old other new = ⊥
 
-module _ {F : Type 0} (IsHonest : F → Type 0) (content : F → List ℕ) (synced : F → ℕ) where
+module _ {F : Type 0} (IsHonest : F → Type 0) (model : F → LogFileOf) where
   -- a log that ends so can be gone on with: it has an opening, its hasher holds these asks, and an honest
   -- file was told them
   pub record IsResumable (file : F) (end : LogEnd) (text : List ℕ) (asks : List (Key × Call)) : Type 0 where
     pub some : text ≢ []
     pub holds : Holds256 end.hasher (log_bytes text asks)
-    pub told : IsHonest file → Tells (content file) (synced file) false end.hasher text asks
+    pub told : IsHonest file → Tells (model file) false end.hasher text asks
 
   -- it keeps these asks: its hasher and its count are theirs, its log goes on behind them unless a
   -- call failed, and an honest file was told them
@@ -65,5 +65,4 @@ module _ {F : Type 0} (IsHonest : F → Type 0) (content : F → List ℕ) (sync
     pub saved_is : log.saved ≡ length asks
     pub holds : Holds256 log.hasher (log_bytes log.text asks)
     pub goes_on : log.log.failed ≡ false → Holds256 log.log.hasher (log_bytes log.text asks)
-    pub told : IsHonest log.log.file
-        → Tells (content log.log.file) (synced log.log.file) log.log.failed log.log.hasher log.text asks
+    pub told : IsHonest log.log.file → Tells (model log.log.file) log.log.failed log.log.hasher log.text asks

@@ -43,9 +43,9 @@ impl<F: LogFile> Model for AskLog<F> {
 impl<F: LogFile> AskLog<F> {
     /// Goes on with the log that a file has, and answers the sequencer's log beside it.
     pub fn resume(alloc: Global, file: F, found: LogInFile) -> (AskLog<F>, Box<Sequencer>)
-        requires { IsResumable F.IsHonest F.content F.synced file found.end found.text.items found.log.value.log }
+        requires { IsResumable F.IsHonest F.model file found.end found.text.items found.log.value.log }
         ensures log { result.1 ≡ found.log }
-        ensures keeps { KeepsAsks F.IsHonest F.content F.synced result.0 found.log.value.log }
+        ensures keeps { KeepsAsks F.IsHonest F.model result.0 found.log.value.log }
         ensures text { result.0.text ≡ found.text.items }
         ensures file { result.0.log.file ≡ file }
     {
@@ -94,9 +94,9 @@ impl<F: LogFile> AskLog<F> {
         requires { self.old.saved ≤ length log.now.log }
         ensures honest { F.IsHonest self.old.log.file ↔ F.IsHonest self.new.log.file }
         // It keeps the whole log, or still what it kept before.
-        ensures keeps { KeepsAsks F.IsHonest F.content F.synced self.old (take self.old.saved log.now.log)
-            → MatchResult result (λ done. KeepsAsks F.IsHonest F.content F.synced self.new log.now.log)
-            (λ fault. KeepsAsks F.IsHonest F.content F.synced self.new (take self.old.saved log.now.log)) }
+        ensures keeps { KeepsAsks F.IsHonest F.model self.old (take self.old.saved log.now.log)
+            → MatchResult result (λ done. KeepsAsks F.IsHonest F.model self.new log.now.log)
+            (λ fault. KeepsAsks F.IsHonest F.model self.new (take self.old.saved log.now.log)) }
         ensures text { self.new.text ≡ self.old.text }
         ensures failed { self.old.log.failed ≡ true → self.new.log.failed ≡ true }
         ensures fault { IfErr result (λ fault. FailsToSave F.has_failed self.old fault self.new) }
@@ -135,7 +135,7 @@ fn push_asks(log: &Sequencer, from: u64, out: &mut Vec<u8>) -> Result<(), AllocE
 
 impl<F: LogFile> Keeper for AskLog<F> {
     ghost model = { record {
-      Keeps = KeepsAsks F.IsHonest F.content F.synced;
+      Keeps = KeepsAsks F.IsHonest F.model;
       opening = λ log. Some log.text;
       fails = true;
       has_failed = λ log. log.log.failed;

@@ -21,13 +21,13 @@ pub fn create_asks<F: LogFile>(
 ) -> Result<LogInFile, LogFault>
     requires opening { IsOpeningText text.items }
     requires size { length text.items + 8 < 2 ^ 32 }
-    requires empty { F.IsHonest file.old → (F.content file.old ≡ []) × (F.synced file.old ≡ 0) }
+    requires empty { F.IsHonest file.old → (F.model file.old).content ≡ [] }
     ensures honest { F.IsHonest file.old ↔ F.IsHonest file.new }
     ensures made { IfOk result (λ made. (made.text.items ≡ text.items) × (made.log.value.log ≡ [])
         × (made.end.torn ≡ 0)
-        × IsResumable F.IsHonest F.content F.synced file.new made.end made.text.items made.log.value.log) }
+        × IsResumable F.IsHonest F.model file.new made.end made.text.items made.log.value.log) }
     ensures fault { IfErr result (λ fault.
-        FailsToMake text.items fault (F.has_failed file.new) (F.IsHonest file.new) (F.content file.new)) }
+        FailsToMake text.items fault (F.has_failed file.new) (F.IsHonest file.new) (F.model file.new).content) }
 {
     let log = empty_log(alloc)?;
     let mut record = Vec::from_slice(alloc, &[0; HEAD])?;

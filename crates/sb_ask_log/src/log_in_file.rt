@@ -1,5 +1,5 @@
 //! The log that a file has.
-ghost use Rattle.std.specs.Prelude.{◌≡◌, ◌≢◌, ◌↔◌, ℕ, List, [], length, IfErr, IfOk, IsErrOf, MatchBool, MatchResult};
+ghost use Rattle.std.specs.Prelude.{◌≡◌, ◌≢◌, ◌↔◌, ◌+◌, ℕ, List, [], length, IfErr, IfOk, IsErrOf, MatchBool, MatchResult};
 ghost use Rattle.sha2.specs.Hashers.{Holds256};
 ghost use Rattle.sb_log.specs.LogFiles.{HasFailed, Stays};
 ghost use Rattle.sb_log.specs.declared.log_fault.LogFault.TheVariants.{Device};
@@ -46,16 +46,17 @@ impl LogInFile {
 /// - [`LogFault::Device`] if a read fails,
 /// - [`LogFault::OutOfMemory`] if memory is refused.
 pub fn read_asks<F: LogFile>(alloc: Global, file: &mut F) -> Result<LogInFile, LogFault>
-    ensures file { Stays F.IsHonest F.content F.synced file.old file.new }
+    ensures file { Stays F.IsHonest F.model file.old file.new }
     ensures read { F.IsHonest file.old → IfOk result (λ found. (rest : List ℕ)
-        × ReadsAskLog (F.content file.old) found.text.items found.log.value.log rest
-        × (found.end.torn ≡ length rest)) }
+        × ReadsAskLog (F.model file.old).content found.text.items found.log.value.log rest
+        × (found.end.torn ≡ length rest)
+        × (found.end.records + found.end.torn ≡ length (F.model file.old).content)) }
     // Whatever the file holds, the hasher holds the log that is answered.
     ensures holds { IfOk result (λ found. found.text.items ≢ []
         → Holds256 found.end.hasher (log_bytes found.text.items found.log.value.log)) }
-    ensures fault { F.IsHonest file.old → IfErr result (IsReadFault (F.content file.old)) }
+    ensures fault { F.IsHonest file.old → IfErr result (IsReadFault (F.model file.old).content) }
     ensures device { IsErrOf result Device
-        → HasFailed (F.has_failed file.new) (F.IsHonest file.old) (F.content file.old) }
+        → HasFailed (F.has_failed file.new) (F.IsHonest file.old) (F.model file.old).content }
 {
     let mut replay = AskReplay::new(alloc)?;
     let end = read_log(alloc, file, &mut replay)?;
@@ -71,15 +72,14 @@ pub fn read_asks<F: LogFile>(alloc: Global, file: &mut F) -> Result<LogInFile, L
 pub fn recover_asks<F: LogFile>(alloc: Global, file: &mut F) -> Result<LogInFile, LogFault>
     ensures honest { F.IsHonest file.old ↔ F.IsHonest file.new }
     ensures file { F.IsHonest file.old → MatchResult result
-        (λ found. RecoversAsks (F.content file.old) found.text.items found.log.value.log found.end.torn
-        (F.content file.new) (F.synced file.new))
-        (λ fault. FailsToRecover (F.content file.old) (F.synced file.old) fault
-        (F.content file.new) (F.synced file.new)) }
+        (λ found. RecoversAsks (F.model file.old).content found.text.items found.log.value.log found.end.torn
+        (F.model file.new).content)
+        (λ fault. FailsToRecover (F.model file.old) fault (F.model file.new)) }
     // Whatever the file holds, the log goes on from here: all that was read counts as told from now on.
     ensures resumes { IfOk result (λ found. found.text.items ≢ []
-        → IsResumable F.IsHonest F.content F.synced file.new found.end found.text.items found.log.value.log) }
+        → IsResumable F.IsHonest F.model file.new found.end found.text.items found.log.value.log) }
     ensures device { IsErrOf result Device
-        → HasFailed (F.has_failed file.new) (F.IsHonest file.old) (F.content file.old) }
+        → HasFailed (F.has_failed file.new) (F.IsHonest file.old) (F.model file.old).content }
 {
     let mut replay = AskReplay::new(alloc)?;
     let end = recover(alloc, file, &mut replay)?;

@@ -10,12 +10,12 @@ pub returns-in_err-log-clause-fault : goal.returns-in_err-log-clause-fault
 returns-in_err-log-clause-fault g c honest =
     let p = err_from_is_err_and c.from_residual-in_err-log.result c.from_residual-in_err-log.ensures.1 in
     rw (p.1, p.2) (create_fault (g.F.LogFile.has_failed c.create_asks.new.file) (g.F.LogFile.IsHonest c.create_asks.new.file) c.in_ok-text.text.items _
-    (g.F.LogFile.content c.create_asks.new.file) c.in_err-log.field-0.0 c.in_ok-text.ensures c.in_err-log.ensures.fault
+    (g.F.LogFile.model c.create_asks.new.file).content c.in_err-log.field-0.0 c.in_ok-text.ensures c.in_err-log.ensures.fault
     (c.create_asks.ensures.honest.0 honest))
 
 pub returns-in_err-log-clause-device : goal.returns-in_err-log-clause-device
 returns-in_err-log-clause-device g c =
     let p = err_from_is_err_and c.from_residual-in_err-log.result c.from_residual-in_err-log.ensures.1 in
     let file = c.create_asks.new.file in
-    rw (p.1, p.2) (device_failed _ (g.F.LogFile.IsHonest file) c.in_ok-text.text.items (g.F.LogFile.content file) c.in_err-log.field-0.0
+    rw (p.1, p.2) (device_failed _ (g.F.LogFile.IsHonest file) c.in_ok-text.text.items (g.F.LogFile.model file).content c.in_err-log.field-0.0
     c.in_err-log.ensures.fault)

@@ -12,16 +12,15 @@ returns-in_err-found-clause-device g c =
 pub returns-in_err-found-clause-file : goal.returns-in_err-found-clause-file
 returns-in_err-found-clause-file g c honest =
     let p = err_from_is_err_and c.from_residual.result c.from_residual.ensures.1 in
-    rw (p.1, p.2) (recover_fault (g.F.LogFile.content c.args.file.now) c.args.input.now (g.F.LogFile.content c.recover_asks.new.file)
-    (g.F.LogFile.synced c.args.file.now) (g.F.LogFile.synced c.recover_asks.new.file) c.in_err-found.field-0.0 (c.in_err-found.ensures.file honest))
+    rw (p.1, p.2) (recover_fault (g.F.LogFile.model c.args.file.now) (g.F.LogFile.model c.recover_asks.new.file) c.args.input.now
+    c.in_err-found.field-0.0 (c.in_err-found.ensures.file honest))
 
 pub create-requires : goal.create-requires
 create-requires g c = record {
   empty = λ still.
       let found = c.in_ok-found.found in
       let none = none_if_empty found.text.items found.text.len found.text.ok.0 (sym c.is_empty.ensures ∙ c.if-is_empty.true) in
-      let empty = (c.in_ok-found.ensures.file (c.recover_asks.ensures.honest.1 still)).empty none in
-      (empty.0, empty.1);
+      ((c.in_ok-found.ensures.file (c.recover_asks.ensures.honest.1 still)).empty none).0;
 }
 
 pub returns-in_err-log-clause-file : goal.returns-in_err-log-clause-file
@@ -31,8 +30,8 @@ returns-in_err-log-clause-file g c honest =
     let none = none_if_empty found.text.items found.text.len found.text.ok.0 (sym c.is_empty.ensures ∙ c.if-is_empty.true) in
     let p = err_from_is_err_and c.from_residual-in_err-log.result c.from_residual-in_err-log.ensures.1 in
     rw (p.1, p.2)
-    (creates_not (g.F.LogFile.content c.args.file.now) c.args.input.now found.text.items (g.F.LogFile.content c.create.new.file) found.log.value.log
-    is.rest c.in_err-log.field-0.0 none (is.empty none).2 is.read (c.in_err-log.ensures.fault (c.recover_asks.ensures.honest.0 honest)))
+    (creates_not (g.F.LogFile.model c.args.file.now).content c.args.input.now found.text.items (g.F.LogFile.model c.create.new.file).content found.log.value.log
+    is.rest c.in_err-log.field-0.0 none (is.empty none).1 is.read (c.in_err-log.ensures.fault (c.recover_asks.ensures.honest.0 honest)))
 
 pub returns-then-is_empty-clause-file : goal.returns-then-is_empty-clause-file
 returns-then-is_empty-clause-file g c honest =
@@ -79,6 +78,6 @@ returns-in_err-opening-clause-file g c honest =
     let is = c.in_ok-found.ensures.file honest in
     let p = err_from_is_err_and c.from_residual-in_err-opening.result c.from_residual-in_err-opening.ensures.1 in
     rw (p.1, p.2)
-    (matches_not (g.F.LogFile.content c.args.file.now) c.args.input.now (g.F.LogFile.content c.recover_asks.new.file) found.text.items found.log.value.log
-    is.rest c.in_err-opening.field-0.0 is.read is.cut
+    (matches_not (g.F.LogFile.model c.args.file.now).content c.args.input.now (g.F.LogFile.model c.recover_asks.new.file).content
+    found.text.items found.log.value.log is.rest c.in_err-opening.field-0.0 is.read is.cut
     (some_if_filled found.text.items found.text.len found.text.ok.0 (sym c.is_empty.ensures ∙ c.if-is_empty.false)) c.in_err-opening.ensures.fault)

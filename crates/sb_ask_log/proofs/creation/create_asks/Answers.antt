@@ -28,7 +28,7 @@ returns-in_err-end-clause-fault g c =
       c.in_err-end.ensures.failed,
       λ still.
           let life = c.in_err-end.ensures.life (c.create_log.ensures.honest.1 still) in
-          part_created (g.F.LogFile.content c.create_log.new.file) (g.F.LogFile.synced c.create_log.new.file) c.in_err-end.field-0.0 c.args.text.items
+          part_created (g.F.LogFile.model c.create_log.new.file) c.in_err-end.field-0.0 c.args.text.items
           (drop HEAD c.deref_mut.result.now) life.0 body life.1 life.2,
     )
 
@@ -44,13 +44,13 @@ returns-clause-made g c =
       refl,
       is_log,
       c.in_ok-end.ensures.end.1,
-      subst (IsResumable {F = g.row.F.Denot} g.F.LogFile.IsHonest g.F.LogFile.content g.F.LogFile.synced c.create_log.new.file end text) (sym is_log)
+      subst (IsResumable {F = g.row.F.Denot} g.F.LogFile.IsHonest g.F.LogFile.model c.create_log.new.file end text) (sym is_log)
           (record {
             some = opening_filled text c.requires.opening;
             holds = subst (Holds256 end.hasher) (body ∙ sym (ap (λ (l : List ℕ). log_magic ++ l) (append-nil text))) c.in_ok-end.ensures.end.2;
             told = λ still.
                 let life = c.in_ok-end.ensures.life (c.create_log.ensures.honest.1 still) in
-                tells_created (g.F.LogFile.content c.create_log.new.file) (g.F.LogFile.synced c.create_log.new.file) end text
+                tells_created (g.F.LogFile.model c.create_log.new.file) end text
                 (drop HEAD c.deref_mut.result.now) life.0 body c.requires.opening life.1 life.2 c.in_ok-end.ensures.end.2;
           }),
     )

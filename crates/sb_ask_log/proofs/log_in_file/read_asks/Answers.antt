@@ -9,8 +9,8 @@ pub returns-in_err-end-clause-fault : goal.returns-in_err-end-clause-fault
 returns-in_err-end-clause-fault g c honest =
     let p = err_from_is_err_and c.from_residual-in_err-end.result c.from_residual-in_err-end.ensures.1 in
     rw (p.1, p.2)
-    (read_fault (g.F.LogFile.content c.args.file.now) c.in_err-end.field-0.0 c.read_log.new.replay
-    (read_at (g.F.LogFile.content c.args.file.now) c.in_ok-replay.replay c.read_log.new.replay c.read_log.new.replay (Err c.in_err-end.field-0.0)
+    (read_fault (g.F.LogFile.model c.args.file.now).content c.in_err-end.field-0.0 c.read_log.new.replay
+    (read_at (g.F.LogFile.model c.args.file.now).content c.in_ok-replay.replay c.read_log.new.replay c.read_log.new.replay (Err c.in_err-end.field-0.0)
     c.in_ok-replay.ensures refl (c.in_err-end.ensures.read honest)))
 
 pub returns-in_err-end-clause-device : goal.returns-in_err-end-clause-device
@@ -20,7 +20,7 @@ returns-in_err-end-clause-device g c =
 
 pub returns-clause-read : goal.returns-clause-read
 returns-clause-read g c honest =
-    let content = g.F.LogFile.content c.args.file.now in
+    let content = (g.F.LogFile.model c.args.file.now).content in
     let new : AskReplayOf = record { text = c.replay.inside.text.items; log = c.replay.inside.log.value.log } in
     let r = read_at content c.in_ok-replay.replay c.read_log.new.replay new (Ok c.in_ok-end.end)
     c.in_ok-replay.ensures c.replay.view_is (c.in_ok-end.ensures.read honest) in

@@ -49,12 +49,12 @@ returns-in_err-append-clause-keeps g c keeps =
       is_log = c.length-length.ensures.valid;
       body_is = body;
     } in
-    let was : KeepsAsks {F = g.row.F.Denot} g.F.LogFile.IsHonest g.F.LogFile.content g.F.LogFile.synced
+    let was : KeepsAsks {F = g.row.F.Denot} g.F.LogFile.IsHonest g.F.LogFile.model
     (record { log = s.log; text = s.text.items; hasher = s.hasher; saved = s.saved }) (take s.saved log) =
-    subst (λ (a : AskLogOf g.row.F.Denot). KeepsAsks {F = g.row.F.Denot} g.F.LogFile.IsHonest g.F.LogFile.content g.F.LogFile.synced a (take a.saved log))
+    subst (λ (a : AskLogOf g.row.F.Denot). KeepsAsks {F = g.row.F.Denot} g.F.LogFile.IsHonest g.F.LogFile.model a (take a.saved log))
     (sym c.self.view_is) keeps in
     let ill = c.in_err-append.ensures.failed.1 in
-    let now : KeepsAsks {F = g.row.F.Denot} g.F.LogFile.IsHonest g.F.LogFile.content g.F.LogFile.synced
+    let now : KeepsAsks {F = g.row.F.Denot} g.F.LogFile.IsHonest g.F.LogFile.model
     (record { log = c.append.new.self; text = s.text.items; hasher = s.hasher; saved = s.saved }) (take s.saved log) = record {
       saved_is = was.saved_is;
       holds = was.holds;
@@ -63,13 +63,12 @@ returns-in_err-append-clause-keeps g c keeps =
           let before = c.append.ensures.honest.1 honest in
           let tells = was.told before in
           let a = c.in_err-append.ensures.life before tells.l tells.file in
-          append_failed (g.F.LogFile.content s.log.file) (g.F.LogFile.content c.append.new.self.file) (g.F.LogFile.synced s.log.file)
-          (g.F.LogFile.synced c.append.new.self.file) s.log.failed c.append.new.self.failed s.log.hasher c.append.new.self.hasher s.text.items
-          log s.saved (drop HEAD c.deref_mut.result.now) c.in_err-append.field-0.0 is_rest tells a.0 a.1 a.2 ill;
+          append_failed (g.F.LogFile.model s.log.file) (g.F.LogFile.model c.append.new.self.file) s.log.failed c.append.new.self.failed s.log.hasher
+          c.append.new.self.hasher s.text.items log s.saved (drop HEAD c.deref_mut.result.now) c.in_err-append.field-0.0 is_rest tells a.0 a.1 a.2 ill;
     } in
     let p = err_from_is_err_and c.from_residual-in_err-append.result c.from_residual-in_err-append.ensures.1 in
     after_err c.from_residual-in_err-append.result _ _ p.0 p.1
-    (subst (λ (a : AskLogOf g.row.F.Denot). KeepsAsks {F = g.row.F.Denot} g.F.LogFile.IsHonest g.F.LogFile.content g.F.LogFile.synced
+    (subst (λ (a : AskLogOf g.row.F.Denot). KeepsAsks {F = g.row.F.Denot} g.F.LogFile.IsHonest g.F.LogFile.model
     (record { log = c.append.new.self; text = s.text.items; hasher = s.hasher; saved = s.saved }) (take a.saved log)) c.self.view_is now)
 
 pub returns-in_err-sync-clause-keeps : goal.returns-in_err-sync-clause-keeps
@@ -87,12 +86,12 @@ returns-in_err-sync-clause-keeps g c keeps =
       is_log = c.length-length.ensures.valid;
       body_is = body;
     } in
-    let was : KeepsAsks {F = g.row.F.Denot} g.F.LogFile.IsHonest g.F.LogFile.content g.F.LogFile.synced
+    let was : KeepsAsks {F = g.row.F.Denot} g.F.LogFile.IsHonest g.F.LogFile.model
     (record { log = s.log; text = s.text.items; hasher = s.hasher; saved = s.saved }) (take s.saved log) =
-    subst (λ (a : AskLogOf g.row.F.Denot). KeepsAsks {F = g.row.F.Denot} g.F.LogFile.IsHonest g.F.LogFile.content g.F.LogFile.synced a (take a.saved log))
+    subst (λ (a : AskLogOf g.row.F.Denot). KeepsAsks {F = g.row.F.Denot} g.F.LogFile.IsHonest g.F.LogFile.model a (take a.saved log))
     (sym c.self.view_is) keeps in
     let ill = c.in_err-sync.ensures.failed.1 in
-    let now : KeepsAsks {F = g.row.F.Denot} g.F.LogFile.IsHonest g.F.LogFile.content g.F.LogFile.synced
+    let now : KeepsAsks {F = g.row.F.Denot} g.F.LogFile.IsHonest g.F.LogFile.model
     (record { log = c.sync.new.self; text = s.text.items; hasher = s.hasher; saved = s.saved }) (take s.saved log) = record {
       saved_is = was.saved_is;
       holds = was.holds;
@@ -103,13 +102,12 @@ returns-in_err-sync-clause-keeps g c keeps =
           let tells = was.told before in
           let a = c.in_ok-append.ensures.life before tells.l tells.file in
           let b = c.in_err-sync.ensures.life between a.0 a.2 in
-          sync_failed (g.F.LogFile.content s.log.file) (g.F.LogFile.content c.sync.new.self.file) (g.F.LogFile.synced s.log.file)
-          (g.F.LogFile.synced c.sync.new.self.file) s.log.failed c.sync.new.self.failed s.log.hasher c.sync.new.self.hasher s.text.items
-          log s.saved (drop HEAD c.deref_mut.result.now) c.in_err-sync.field-0.0 is_rest tells a.0 b.0 a.1 b.1 b.2 ill;
+          sync_failed (g.F.LogFile.model s.log.file) (g.F.LogFile.model c.sync.new.self.file) s.log.failed c.sync.new.self.failed s.log.hasher
+          c.sync.new.self.hasher s.text.items log s.saved (drop HEAD c.deref_mut.result.now) c.in_err-sync.field-0.0 is_rest tells a.0 b.0 a.1 b.1 b.2 ill;
     } in
     let p = err_from_is_err_and c.from_residual-in_err-sync.result c.from_residual-in_err-sync.ensures.1 in
     after_err c.from_residual-in_err-sync.result _ _ p.0 p.1
-    (subst (λ (a : AskLogOf g.row.F.Denot). KeepsAsks {F = g.row.F.Denot} g.F.LogFile.IsHonest g.F.LogFile.content g.F.LogFile.synced
+    (subst (λ (a : AskLogOf g.row.F.Denot). KeepsAsks {F = g.row.F.Denot} g.F.LogFile.IsHonest g.F.LogFile.model
     (record { log = c.sync.new.self; text = s.text.items; hasher = s.hasher; saved = s.saved }) (take a.saved log)) c.self.view_is now)
 
 pub returns-clause-keeps : goal.returns-clause-keeps
@@ -127,9 +125,9 @@ returns-clause-keeps g c keeps =
       is_log = c.length-length.ensures.valid;
       body_is = body;
     } in
-    let was : KeepsAsks {F = g.row.F.Denot} g.F.LogFile.IsHonest g.F.LogFile.content g.F.LogFile.synced
+    let was : KeepsAsks {F = g.row.F.Denot} g.F.LogFile.IsHonest g.F.LogFile.model
     (record { log = s.log; text = s.text.items; hasher = s.hasher; saved = s.saved }) (take s.saved log) =
-    subst (λ (a : AskLogOf g.row.F.Denot). KeepsAsks {F = g.row.F.Denot} g.F.LogFile.IsHonest g.F.LogFile.content g.F.LogFile.synced a (take a.saved log))
+    subst (λ (a : AskLogOf g.row.F.Denot). KeepsAsks {F = g.row.F.Denot} g.F.LogFile.IsHonest g.F.LogFile.model a (take a.saved log))
     (sym c.self.view_is) keeps in
     let bytes : log_bytes s.text.items (take s.saved log) ++ drop HEAD c.deref_mut.result.now ≡ log_bytes s.text.items log =
     ap (λ (l : List ℕ). log_bytes s.text.items (take s.saved log) ++ l) body ∙ sym (log_bytes_more s.text.items (take s.saved log) rest)
@@ -151,9 +149,8 @@ returns-clause-keeps g c keeps =
           let tells = was.told before in
           let a = c.in_ok-append.ensures.life before tells.l tells.file in
           let b = c.in_ok-sync.ensures.life between a.0 a.2 in
-          tells_more (g.F.LogFile.content s.log.file) (g.F.LogFile.content c.sync.new.self.file) (g.F.LogFile.synced s.log.file)
-          (g.F.LogFile.synced c.sync.new.self.file) s.log.failed c.sync.new.self.failed s.log.hasher c.sync.new.self.hasher s.text.items
-          log s.saved (drop HEAD c.deref_mut.result.now) is_rest tells a.0 b.0 a.1 b.1 b.2;
+          tells_more (g.F.LogFile.model s.log.file) (g.F.LogFile.model c.sync.new.self.file) s.log.failed c.sync.new.self.failed s.log.hasher
+          c.sync.new.self.hasher s.text.items log s.saved (drop HEAD c.deref_mut.result.now) is_rest tells a.0 b.0 a.1 b.1 b.2;
     }
 
 pub returns-in_err-append-clause-fault : goal.returns-in_err-append-clause-fault

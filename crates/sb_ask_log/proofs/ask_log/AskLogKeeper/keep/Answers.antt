@@ -34,8 +34,8 @@ returns-clause-stays g c = record {
       let old = c.args.self.now in
       let front : take old.saved log ≡ kept =
       ap (λ (l : List (Key × Call)). take old.saved l) parts ∙ take_at kept rest old.saved (sym keeps.saved_is) in
-      let was = subst (KeepsAsks {F = g.row.F.Denot} g.F.LogFile.IsHonest g.F.LogFile.content g.F.LogFile.synced old) (sym front) keeps in
-      let now = KeepsAsks {F = g.row.F.Denot} g.F.LogFile.IsHonest g.F.LogFile.content g.F.LogFile.synced c.save_rest.new.self in
+      let was = subst (KeepsAsks {F = g.row.F.Denot} g.F.LogFile.IsHonest g.F.LogFile.model old) (sym front) keeps in
+      let now = KeepsAsks {F = g.row.F.Denot} g.F.LogFile.IsHonest g.F.LogFile.model c.save_rest.new.self in
       kept_on c.save_rest.result now log kept rest parts
       (subst (λ (l : List (Key × Call)). MatchResult c.save_rest.result (λ done. now log) (λ fault. now l)) front (c.save_rest.ensures.keeps was));
   same_opening = ap Some c.save_rest.ensures.text;
