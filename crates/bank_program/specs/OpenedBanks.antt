@@ -3,6 +3,7 @@ use Rattle.std.specs.Prelude.{◌≡◌, ℕ, Option, Err, List, IfSome}
 use Rattle.sb_calls.specs.declared.ask.Key.{Key}
 use Rattle.sb_calls.specs.declared.call.Call.{Call}
 use Rattle.sb_rows.specs.declared.opening.Opening.{Opening as AnyOpening}
+use Rattle.sb_log.specs.LogFiles.{LogFileOf}
 use Rattle.sb_ask_log.specs.Telling.{AskLogOf}
 use Rattle.bank_server.specs.Primary.{PrimaryOf}
 use Rattle.bank_server.specs.declared.fault.RunFault.TheVariants.{Input, Device, OutOfMemory}
@@ -22,12 +23,12 @@ IsOpeningFault input other = ⊥
 
 -- a bank is opened on a file: what is found there with this input, if the file is honest, is its log, whose opening
 -- node 0 is at
-pub record OpensOnLog {F S : Type 0} (IsHonest : F → Type 0) (content : F → List ℕ) (file : F) (input : List ℕ)
+pub record OpensOnLog {F S : Type 0} (IsHonest : F → Type 0) (model : F → LogFileOf) (file : F) (input : List ℕ)
     (store : S) (bank : PrimaryOf S (AskLogOf F)) : Type 0 where
   pub text : List ℕ
   pub log : List (Key × Call)
   pub cut : ℕ
-  pub found : IsHonest file → FindsBank (content file) input text log cut
+  pub found : IsHonest file → FindsBank (model file).content input text log cut
   pub opening : AnyOpening
   pub opening_is : IsOpeningOf (whole_opening_of text) opening
   pub now : F

@@ -1,5 +1,5 @@
 //! Cutting a log behind its last whole record.
-ghost use Rattle.std.specs.Prelude.{◌≡◌, ◌⊎◌, [], drop, length, take, IfErr, IfOk, IsFalse, OnOk};
+ghost use Rattle.std.specs.Prelude.{◌≡◌, ◌⊎◌, ◌≤◌, ◌<◌, [], drop, length, take, IfErr, IfOk, IsFalse, OnOk};
 ghost use Rattle.std.specs.Io.KnownBytes.{Appends};
 ghost use Rattle.sb_log.specs.LogFiles.{Stays};
 ghost use Rattle.bank_program.specs.CutLogs.{CutsOff, IsCutFault, ListsCheck};
@@ -10,7 +10,7 @@ use crate::log_rest::RestFile;
 use bank_service::{ListFault, list_log};
 use program_words::Listing;
 use sb_ask_log::read_asks;
-use sb_log::{LogFault, LogFile};
+use sb_log::{LogFault, LogFile, truncate_and_sync};
 use std::alloc::Global;
 use std::io;
 use std::io::Write;
@@ -19,7 +19,8 @@ use std::io::Write;
 const PIECE: usize = 65_536;
 
 /// Moves what follows the last whole record of a log to a file of its own, and prints the line of the log that is
-/// left. If nothing follows nothing is written there.
+/// left. If nothing follows nothing is written there. The rest is on the disk before the log is cut; the log is
+/// on the disk before its line is printed, also after a sync that failed.
 ///
 /// Fails with
 /// - [`ListFault::NoLog`] if there is no whole first record,
@@ -29,39 +30,37 @@ const PIECE: usize = 65_536;
 /// - [`ListFault::OutOfMemory`] if memory is refused,
 /// - the fault of [`list_log`] if the log that is left can't be read.
 ///
-/// Nothing is cut off then, or what was is in the other file.
+/// Nothing is cut off then, or what was is in the other file, and kept there.
 pub fn cut_log<F: LogFile, R: RestFile, W: Write>(
     alloc: Global,
     file: &mut F,
     rest: &mut R,
     writer: &mut W,
 ) -> Result<(), ListFault>
-    ensures cut { F.IsHonest file.old → OnOk result (CutsOff (F.content file.old) (F.content file.new)
+    ensures cut { F.IsHonest file.old → OnOk result (CutsOff (F.model file.old).content (F.model file.new).content
         (R.contents rest.old) (R.contents rest.new)) }
-    ensures synced { F.IsHonest file.old → OnOk result (F.synced file.new ≡ length (F.content file.new)) }
-    ensures listed { F.IsHonest file.old → OnOk result (ListsCheck (F.content file.new)
+    ensures synced { F.IsHonest file.old → OnOk result (length (F.model file.new).content ≤ (F.model file.new).synced) }
+    ensures listed { F.IsHonest file.old → OnOk result (ListsCheck (F.model file.new).content
         (W.contents writer.old) (W.contents writer.new)) }
-    ensures kept { F.IsHonest file.old → (F.content file.new ≡ F.content file.old)
-        ⊎ CutsOff (F.content file.old) (F.content file.new) (R.contents rest.old) (R.contents rest.new) }
-    ensures fault { F.IsHonest file.old → IfErr result (λ fault. IsCutFault (F.content file.old) fault
-        ⊎ IsListFault (F.content file.new) fault) }
+    ensures kept { F.IsHonest file.old → ((F.model file.new).content ≡ (F.model file.old).content)
+        ⊎ CutsOff (F.model file.old).content (F.model file.new).content (R.contents rest.old) (R.kept rest.new) }
+    ensures fault { F.IsHonest file.old → IfErr result (λ fault. IsCutFault (F.model file.old).content fault
+        ⊎ IsListFault (F.model file.new).content fault) }
 {
     let (end, behind) = end_of_records(alloc, file)?;
     match move_rest(alloc, file, end, rest) {
         Ok(moved) if moved == behind => {}
         _ => return Err(ListFault::Rest),
     }
-    if file.cut(end).is_err() || file.sync().is_err() {
-        return Err(ListFault::Log(LogFault::Device));
-    }
+    truncate_and_sync(alloc, file, end)?;
     list_log(alloc, file, Listing::Check, writer)
 }
 
 // Where the whole records of a log end, of which there is one at least, and how many bytes follow.
 fn end_of_records<F: LogFile>(alloc: Global, file: &mut F) -> Result<(usize, usize), ListFault>
-    ensures file { Stays F.IsHonest F.content F.synced file.old file.new }
-    ensures end { F.IsHonest file.old → IfOk result (λ at. EndsRecordsAt (F.content file.old) at.0 at.1) }
-    ensures fault { F.IsHonest file.old → IfErr result (IsCutFault (F.content file.old)) }
+    ensures file { Stays F.IsHonest F.model file.old file.new }
+    ensures end { F.IsHonest file.old → IfOk result (λ at. EndsRecordsAt (F.model file.old).content at.0 at.1) }
+    ensures fault { F.IsHonest file.old → IfErr result (IsCutFault (F.model file.old).content) }
 {
     match read_asks(alloc, file) {
         Ok(found) if found.text.is_empty() => Err(ListFault::NoLog),
@@ -79,9 +78,10 @@ fn move_rest<F: LogFile, R: RestFile>(
     from: usize,
     rest: &mut R,
 ) -> io::Result<usize>
-    ensures file { Stays F.IsHonest F.content F.synced file.old file.new }
-    ensures moved { F.IsHonest file.old → IfOk result (λ count. (count ≡ length (drop from (F.content file.old)))
-        × Appends (R.contents rest.old) (R.contents rest.new) (drop from (F.content file.old))) }
+    ensures file { Stays F.IsHonest F.model file.old file.new }
+    ensures moved { F.IsHonest file.old → IfOk result (λ count. (count ≡ length (drop from (F.model file.old).content))
+        × Appends (R.contents rest.old) (R.contents rest.new) (drop from (F.model file.old).content)) }
+    ensures kept { IfOk result (λ count. 0 < count → R.kept rest.new ≡ R.contents rest.new) }
 {
     let mut piece = Vec::new(alloc);
     let mut at = from;
@@ -103,9 +103,9 @@ fn move_rest<F: LogFile, R: RestFile>(
 
 // Reads the piece of a file at a place, and answers whether there is one.
 fn read_piece<F: LogFile>(file: &mut F, at: usize, piece: &mut Vec<u8>) -> io::Result<bool>
-    ensures file { Stays F.IsHonest F.content F.synced file.old file.new }
+    ensures file { Stays F.IsHonest F.model file.old file.new }
     ensures read { F.IsHonest file.old → IfOk result (λ is_there.
-        (piece.new.items ≡ take 65536 (drop at (F.content file.old)))
+        (piece.new.items ≡ take 65536 (drop at (F.model file.old).content))
         × (IsFalse is_there → piece.new.items ≡ [])) }
 {
     piece.clear();

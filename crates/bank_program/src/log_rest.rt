@@ -1,5 +1,5 @@
 //! Where what is cut off a log is kept.
-ghost use Rattle.std.specs.Prelude.{◌≡◌, ◌≤◌, length, IfOk};
+ghost use Rattle.std.specs.Prelude.{◌≡◌, ◌≤◌, ℕ, List, Option, None, length, IfOk, OnOk};
 
 use sb_log::Reason;
 use std::fs::{File, OpenOptions};
@@ -12,9 +12,13 @@ pub const REST: &str = "log.rest";
 
 /// A file for what is cut off a log.
 pub trait RestFile: Write {
+    /// What a crash leaves of it, if that is known.
+    ghost kept: { Self → Option (List ℕ) };
+
     /// Waits until all its bytes are on the disk, and its name too.
     fn sync(&mut self) -> io::Result<()>
-        ensures { Self.contents self.new ≡ Self.contents self.old };
+        ensures contents { Self.contents self.new ≡ Self.contents self.old }
+        ensures kept { OnOk result (Self.kept self.new ≡ Self.contents self.old) };
 }
 
 /// A new file for what is cut off a log, beside the log. It is made as the first bytes are written, and one that is
@@ -92,6 +96,9 @@ impl Write for SystemRest<'_> {
 }
 
 impl RestFile for SystemRest<'_> {
+    // No contract says what a file of the system holds, so nothing is claimed of it.
+    ghost kept = { λ rest. None };
+
     fn sync(&mut self) -> io::Result<()> {
         let done = self.sync_made();
         self.with_reason(done)

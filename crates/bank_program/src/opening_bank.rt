@@ -59,11 +59,11 @@ pub fn open_bank_on_log<F: LogFile, S: CheckpointStore, E: Write>(
     notes: &mut E,
 ) -> Result<Box<Primary<S, AskLog<F>>>, ServeFault>
     ensures opened { IfOk result
-        (λ bank. OpensOnLog F.IsHonest F.content file input.now store bank.value) }
+        (λ bank. OpensOnLog F.IsHonest F.model file input.now store bank.value) }
     ensures kept { IfOk result
-        (λ bank. KeepsAsks F.IsHonest F.content F.synced bank.value.keeper bank.value.log) }
+        (λ bank. KeepsAsks F.IsHonest F.model bank.value.keeper bank.value.log) }
     ensures no_entries { IfOk result (λ bank. HasNoEntries bank.value.node.board) }
-    ensures fault { F.IsHonest file → IfErr result (FailsToOpen (F.content file) input.now) }
+    ensures fault { F.IsHonest file → IfErr result (FailsToOpen (F.model file).content input.now) }
     ensures kind { IfErr result IsBankFault }
 {
     let mut file = file;

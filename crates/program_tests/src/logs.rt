@@ -1,5 +1,5 @@
 //! Banks on a log, what is listed of it, and what is cut off.
-ghost use Rattle.std.specs.Prelude.{Some};
+ghost use Rattle.std.specs.Prelude.{None, Some, if◌then◌else◌};
 
 use crate::clients::{Client, Transcript, plain};
 use crate::served::{ASKED, GARBAGE, OPENING, TOLD};
@@ -8,7 +8,7 @@ use bank_program::{RestFile, cut_log, open_bank_on_log};
 use bank_service::{ListFault, ServeFault, find_bank, list_log, serve};
 use program_words::{Listing, Plan};
 use sb_checkpoint::MemoryStore;
-use sb_log::{LogFile, MemoryFile};
+use sb_log::{FaultyFile, LogFile, MemoryFile};
 use std::alloc::Global;
 use std::io;
 use std::io::{ErrorKind, Write};
@@ -162,21 +162,31 @@ fn what_is_listed_of_a_log(rt: HostRuntime) {
     }
 }
 
-// What was cut off a log, how often it was synced, and whether writing fails.
+// What of cutting fails: nothing, a write of the rest, its sync, or this call of the log's file.
+#[derive(Clone, Copy, PartialEq, Eq)]
+enum Failing {
+    Nothing,
+    Write,
+    Sync,
+    Call(u64),
+}
+
+// What was cut off a log, whether all of it is synced, and what fails.
 #[derive(Drop)]
 struct Rest {
     bytes: Vec<u8>,
-    syncs: usize,
-    fails: bool,
+    is_synced: bool,
+    failing: Failing,
 }
 
 impl Write for Rest {
     ghost contents = { λ rest. Some rest.bytes.items };
 
     fn write(&mut self, buf: &[u8]) -> io::Result<usize> {
-        if self.fails {
+        if self.failing == Failing::Write {
             return Err(io::Error::from(ErrorKind::Other));
         }
+        self.is_synced = false;
         self.bytes.write(buf)
     }
 
@@ -186,30 +196,52 @@ impl Write for Rest {
 }
 
 impl RestFile for Rest {
+    ghost kept = { λ rest. if rest.is_synced then Some rest.bytes.items else None };
+
     fn sync(&mut self) -> io::Result<()> {
-        self.syncs = self.syncs.saturating_add(1);
+        if self.failing == Failing::Sync {
+            return Err(io::Error::from(ErrorKind::Other));
+        }
+        self.is_synced = true;
         Ok(())
     }
 }
 
-// Cuts a log with this behind its records: how that ends, what the file has then, the rest, and what is printed.
-fn cut(
-    rt: &impl Abort,
-    alloc: Global,
-    log: &[u8],
-    behind: &[u8],
-    fails: bool,
-) -> (Result<(), ListFault>, MemoryFile, Rest, Vec<u8>) {
-    let mut file = file_of(rt, alloc, log);
-    file.append(behind).expect(rt, "memory");
+// What cutting a log left.
+#[derive(Drop)]
+struct CutLog {
+    done: Result<(), ListFault>,
+    file: MemoryFile,
+    rest: Rest,
+    printed: Vec<u8>,
+}
+
+// Cuts a log with this behind its records. What a crash leaves of the file is in it then.
+fn cut(rt: &impl Abort, alloc: Global, log: &[u8], behind: &[u8], failing: Failing) -> CutLog {
+    let mut inner = file_of(rt, alloc, log);
+    inner.append(behind).expect(rt, "memory");
+    let at = match failing {
+        Failing::Call(at) => at,
+        _ => 0,
+    };
+    let mut file = FaultyFile::new(inner, at, 0);
     let mut printed = Vec::new(alloc);
     let mut rest = Rest {
         bytes: Vec::new(alloc),
-        syncs: 0,
-        fails,
+        is_synced: false,
+        failing,
     };
     let done = cut_log(alloc, &mut file, &mut rest, &mut printed);
-    (done, file, rest, printed)
+    let mut file = file.into_inner();
+    if done.is_ok() {
+        file.crash(0);
+    }
+    CutLog {
+        done,
+        file,
+        rest,
+        printed,
+    }
 }
 
 #[test]
@@ -219,26 +251,46 @@ fn what_is_cut_off_a_log(rt: HostRuntime) {
     let torn = bytes.get(..8).expect(&rt, "8 bytes");
     let long = vec![in alloc; 1u8; 70_000].expect(&rt, "memory");
     for behind in [b"".as_slice(), torn, b"damage that is no record", &long] {
-        let (done, file, rest, printed) = cut(&rt, alloc, &bytes, behind, false);
-        assert!(rt; done.is_ok());
-        assert!(rt; file.bytes() == bytes.as_slice(), "the log stays");
-        assert!(rt; rest.bytes.as_slice() == behind, "what was behind it");
-        assert!(rt; rest.syncs == usize::from(!behind.is_empty()));
-        assert!(rt; printed.as_slice() == BOTH.as_bytes());
+        let cut = cut(&rt, alloc, &bytes, behind, Failing::Nothing);
+        assert!(rt; cut.done.is_ok());
+        assert!(rt; cut.file.bytes() == bytes.as_slice(), "the log stays");
+        assert!(rt; cut.rest.bytes.as_slice() == behind, "what was behind it");
+        assert!(rt; cut.rest.is_synced != behind.is_empty());
+        assert!(rt; cut.printed.as_slice() == BOTH.as_bytes());
     }
 }
 
 #[test]
-fn nothing_is_cut_off_that_is_not_moved(rt: HostRuntime) {
+fn nothing_is_cut_off_that_is_not_kept(rt: HostRuntime) {
     let alloc = rt.alloc();
     let bytes = kept(&rt, alloc);
-    let (done, file, _, printed) = cut(&rt, alloc, &bytes, b"rest", true);
-    assert!(rt; done == Err(ListFault::Rest));
-    assert!(rt; file.bytes().strip_prefix(bytes.as_slice()) == Some(b"rest".as_slice()));
-    assert!(rt; printed.is_empty());
+    for failing in [Failing::Write, Failing::Sync] {
+        let cut = cut(&rt, alloc, &bytes, b"rest", failing);
+        assert!(rt; cut.done == Err(ListFault::Rest));
+        assert!(rt; cut.file.bytes().strip_prefix(bytes.as_slice()) == Some(b"rest".as_slice()));
+        assert!(rt; cut.printed.is_empty());
+    }
     // Less than the first record is no log.
     let torn = bytes.get(..60).expect(&rt, "60 bytes");
-    let (done, file, rest, printed) = cut(&rt, alloc, torn, b"", false);
-    assert!(rt; done == Err(ListFault::NoLog));
-    assert!(rt; file.bytes() == torn && rest.bytes.is_empty() && printed.is_empty());
+    let cut = cut(&rt, alloc, torn, b"", Failing::Nothing);
+    assert!(rt; cut.done == Err(ListFault::NoLog));
+    assert!(rt; cut.file.bytes() == torn && cut.rest.bytes.is_empty() && cut.printed.is_empty());
+}
+
+#[test]
+fn a_call_of_the_log_fails_as_it_is_cut(rt: HostRuntime) {
+    let alloc = rt.alloc();
+    let bytes = kept(&rt, alloc);
+    for at in 1..30 {
+        let cut = cut(&rt, alloc, &bytes, b"rest", Failing::Call(at));
+        if cut.done.is_ok() {
+            assert!(rt; at > 10, "each call failed once");
+            return;
+        }
+        assert!(rt; cut.printed.is_empty());
+        // What isn't in the log is in the other file, and kept there.
+        let left = cut.file.bytes().len();
+        assert!(rt; left == bytes.len() + 4 || cut.rest.is_synced);
+    }
+    assert!(rt; false, "it is cut at last");
 }

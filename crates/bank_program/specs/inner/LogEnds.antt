@@ -1,5 +1,5 @@
 -- Where a log ends.
-use Rattle.std.specs.Prelude.{◌≡◌, ◌≢◌, ◌⊎◌, ℕ, List, [], length}
+use Rattle.std.specs.Prelude.{◌≡◌, ◌≢◌, ◌⊎◌, ℕ, ◌+◌, List, [], length}
 use Rattle.sb_calls.specs.declared.ask.Key.{Key}
 use Rattle.sb_calls.specs.declared.call.Call.{Call}
 use Rattle.sb_ask_log.specs.Recovery.{IsDamagedAskLog, ReadsAskLog}
@@ -8,5 +8,5 @@ use Rattle.sb_ask_log.specs.Recovery.{IsDamagedAskLog, ReadsAskLog}
 abbrev pub EndsRecordsAt : List ℕ → ℕ → ℕ → Type 0
 EndsRecordsAt bytes byte behind =
     ((text : List ℕ) × (log : List (Key × Call)) × (rest : List ℕ) × ReadsAskLog bytes text log rest × (text ≢ [])
-    × (behind ≡ length rest))
+    × (behind ≡ length rest) × (byte + behind ≡ length bytes))
     ⊎ IsDamagedAskLog bytes byte behind
