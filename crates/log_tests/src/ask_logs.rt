@@ -71,8 +71,8 @@ fn file_with(rt: &impl Abort, alloc: Global, bodies: &[&[u8]]) -> MemoryFile {
 
 // A log with the opening, in an empty file.
 fn made<F: LogFile>(rt: &impl Abort, alloc: Global, file: F) -> Result<Box<AskLog<F>>, LogFault>
-    requires { F.IsHonest file → (F.content file ≡ []) × (F.synced file ≡ 0) }
-    ensures { IfOk result (λ log. KeepsAsks F.IsHonest F.content F.synced log.value []) }
+    requires { F.IsHonest file → (F.model file).content ≡ [] }
+    ensures { IfOk result (λ log. KeepsAsks F.IsHonest F.model log.value []) }
 {
     let is = is_opening_text(alloc, TEXT).expect(rt, "memory");
     assert!(rt; is, "an opening");
@@ -115,19 +115,15 @@ fn has_first(log: &Sequencer, count: u64) -> bool {
     for number in 1..3 {
         let wanted = if number == 1 { FIRST } else { SECOND };
         let found = match (log.ask_of(number), decode(wanted)) {
-            (
-                Some((key, call)),
-                Ok(
-                    (
-                        Frame::Ask {
-                            client,
-                            request,
-                            call: other,
-                        },
-                        _,
-                    ),
-                ),
-            ) => key.client == client && key.request == request && call == other,
+            (Some((key, call)), Ok((frame, _))) => {
+                let (client, request) = (key.client, key.request);
+                frame
+                    == Frame::Ask {
+                        client,
+                        request,
+                        call,
+                    }
+            }
             _ => false,
         };
         if found != (number <= count) {

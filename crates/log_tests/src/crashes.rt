@@ -1,6 +1,7 @@
 //! What is left after a crash, and what replicas get before one.
 use sb_calls::Call;
 use sb_frames::Frame;
+use sb_log::{FaultyFile, LogFile, MemoryFile};
 use sb_rows::Name;
 use sb_sequencer::{AckNote, Numbered};
 use schedule_sequencer::DurableSequencer;
@@ -106,5 +107,33 @@ fn a_crash_leaves_these_calls(rt: HostRuntime) {
         append_all(&rt, &mut log, b"xy");
         assert!(rt; log.crash(0).is_ok(), "memory");
         has(&rt, &log, &b"abcdefg"[..left as usize], left);
+    }
+}
+
+// What is left of a file whose first sync fails, and leaves this many of its two bytes. It is synced again behind a
+// third byte, and before that written again, or not.
+fn left_behind(rt: &(impl Abort + AllocGlobal), kept: usize, is_written_again: bool) -> MemoryFile {
+    let mut file = FaultyFile::new(MemoryFile::new(rt.alloc()), 2, kept);
+    file.append(b"ab").expect(rt, "memory");
+    assert!(rt; file.sync().is_err(), "the sync fails");
+    if is_written_again {
+        file.write_again(0, b"ab").expect(rt, "the same bytes");
+    }
+    file.append(b"c").expect(rt, "memory");
+    file.sync().expect(rt, "a sync");
+    let mut left = file.into_inner();
+    left.crash(0);
+    left
+}
+
+#[test]
+fn a_sync_after_one_that_failed(rt: HostRuntime) {
+    for kept in 0..4 {
+        // If both bytes are left, the third one is reached too.
+        let reached = if kept < 2 { kept } else { 3 };
+        let left = left_behind(&rt, kept, false);
+        assert!(rt; left.bytes() == &b"abc"[..reached], "{kept} kept");
+        let left = left_behind(&rt, kept, true);
+        assert!(rt; left.bytes() == b"abc".as_slice(), "{kept} kept");
     }
 }

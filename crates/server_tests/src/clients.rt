@@ -1,12 +1,13 @@
 //! Clients who are served at once, over arrivals in memory.
-ghost use Rattle.std.specs.Prelude.{◌≡◌, ◌≤◌, ◌<◌, ℕ, length, None, true};
+ghost use Rattle.std.specs.Prelude.{◌≡◌, ◌≤◌, ◌<◌, ℕ, length, None, true, OnOk};
 ghost use Rattle.std.specs.List.{All};
 ghost use Rattle.bank_server.specs.Clients.{IsReady};
 
 use crate::bank::{expect, expect_bytes, joined, opened};
 use crate::wire::{ENTRY, FLUSH, OTHER};
-use bank_server::{Arrival, Arrivals, ClientLimits, Clients, Primary, SessionFault};
+use bank_server::{Arrival, Arrivals, ClientLimits, Clients, Primary, SessionFault, TurnFault};
 use cown_workers::InlineCrew;
+use sb_ask_log::Keeper;
 use sb_checkpoint::MemoryStore;
 use sb_frames::FrameFault;
 use std::alloc::Global;
@@ -41,8 +42,8 @@ impl Arrivals for Script<'_> {
     }
 }
 
-// Puts bytes at the front of a chunk, as far as they fit, and answers how many.
-fn put(bytes: &[u8], chunk: &mut [u8]) -> usize
+/// Puts bytes at the front of a chunk, as far as they fit, and answers how many.
+pub(crate) fn put(bytes: &[u8], chunk: &mut [u8]) -> usize
     ensures { result ≤ length chunk.new }
 {
     let count = bytes.len().min(chunk.len());
@@ -50,8 +51,8 @@ fn put(bytes: &[u8], chunk: &mut [u8]) -> usize
     count
 }
 
-// Three clients, of whom nothing came.
-fn some_clients(rt: &impl Abort, alloc: Global) -> Clients
+/// Three clients, of whom nothing came.
+pub(crate) fn some_clients(rt: &impl Abort, alloc: Global) -> Clients
     ensures ready { (calls : ℕ) → All (λ client. IsReady calls client) result.all }
 {
     let limits = ClientLimits::beside_others();
@@ -62,21 +63,20 @@ fn some_clients(rt: &impl Abort, alloc: Global) -> Clients
     clients
 }
 
-// A turn that takes these pieces.
-fn turn(
+/// A turn that takes these pieces.
+pub(crate) fn turn<K: Keeper>(
     rt: &impl Abort,
     pieces: &[Piece<'_>],
     clients: &mut Clients,
-    primary: &mut Primary<MemoryStore>,
-)
+    primary: &mut Primary<MemoryStore, K>,
+) -> Result<(), TurnFault>
     requires ready { All (λ client. IsReady (length primary.old.log) client) clients.old.all }
-    ensures ready { All (λ client. IsReady (length primary.new.log) client) clients.new.all }
+    ensures ready { OnOk result (All (λ client. IsReady (length primary.new.log) client) clients.new.all) }
 {
     let mut script = Script { pieces, taken: 0 };
-    clients
-        .turn(&mut script, primary, &mut InlineCrew)
-        .expect(rt, "a turn");
+    let ended = clients.turn(&mut script, primary, &mut InlineCrew);
     expect(rt, script.taken == pieces.len(), "all that came is taken");
+    ended
 }
 
 /// A client sends this in one piece, and goes on. No flush of it follows, so that node 0 is offered what it
@@ -88,7 +88,7 @@ pub(crate) fn ask_unflushed(
     sent: &[u8],
 ) {
     let mut clients = some_clients(rt, alloc);
-    turn(rt, &[(0, Some(sent))], &mut clients, primary);
+    turn(rt, &[(0, Some(sent))], &mut clients, primary).expect(rt, "a turn");
 }
 
 // What a client was given by now, and how it ended.
@@ -118,8 +118,8 @@ struct Case<'a> {
 fn expect_case(rt: &impl Abort, alloc: Global, case: &Case) {
     let mut primary = opened(rt, alloc);
     let mut clients = some_clients(rt, alloc);
-    turn(rt, case.first, &mut clients, &mut primary);
-    turn(rt, case.then, &mut clients, &mut primary);
+    turn(rt, case.first, &mut clients, &mut primary).expect(rt, "a turn");
+    turn(rt, case.then, &mut clients, &mut primary).expect(rt, "another turn");
     expect(rt, case.told.len() == clients.len(), "each client");
     for (place, told) in case.told.iter().enumerate() {
         expect_told(rt, alloc, &clients, place, told);

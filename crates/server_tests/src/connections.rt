@@ -1,8 +1,9 @@
 //! The sessions of clients who are served at once, over connections in memory.
-ghost use Rattle.std.specs.Prelude.{◌≡◌, ◌≤◌, ◌∷◌, ℕ, [], length, None, true};
+ghost use Rattle.std.specs.Prelude.{◌≡◌, ◌∷◌, ℕ, [], length, None, true};
 ghost use Rattle.bank_clients.specs.Sessions.{AreListed, AreReady};
 
 use crate::bank::{expect, expect_bytes, joined, opened};
+use crate::clients::put;
 use crate::wire::{DEPOSIT, DONE, FLUSH, OTHER};
 use bank_clients::{Connections, Over, Sessions};
 use bank_server::{Arrival, Arrivals, AskCounts, ClientLimits, Primary, SessionFault};
@@ -63,15 +64,6 @@ impl Arrivals for Wires<'_> {
         };
         Some(Arrival { client, read })
     }
-}
-
-// Puts bytes at the front of a chunk, as far as they fit, and answers how many.
-fn put(bytes: &[u8], chunk: &mut [u8]) -> usize
-    ensures { result ≤ length chunk.new }
-{
-    let count = bytes.len().min(chunk.len());
-    chunk[..count].copy_from_slice(&bytes[..count]);
-    count
 }
 
 impl Connections for Wires<'_> {

@@ -1,11 +1,10 @@
 //! Sessions whose log is kept, and keepers that fail.
 ghost use Rattle.std.specs.Prelude.{None, true};
 
-use crate::bank::{OPENING, expect, expect_bytes, joined};
+use crate::bank::{OPENING, expect, joined};
 use crate::devices::BytewiseReader;
-use crate::wire::{BALANCE, DEPOSIT, DONE, ENTRY, FLUSH, SHOWN};
-use bank_server::{Primary, SessionFault, serve_session};
-use cown_workers::InlineCrew;
+use crate::wire::{BALANCE, DEPOSIT, DONE, ENTRY, FLUSH, SHOWN, expect_session};
+use bank_server::{Primary, SessionFault};
 use sb_ask_log::Keeper;
 use sb_calls::read_call;
 use sb_checkpoint::MemoryStore;
@@ -70,80 +69,40 @@ fn kept_bank(
     Primary::on_log(alloc, opening, MemoryStore::new(alloc), log, keeper).expect(rt, "a bank")
 }
 
-// A session over a log that is kept so many times: what is sent, how it ends, what is told, and how
-// much of the log was kept last.
-#[derive(Clone, Copy)]
-struct KeptSession<'a> {
-    left: u32,
-    sent: &'a [&'a [u8]],
-    ends: Result<(), SessionFault>,
-    told: &'a [&'a [u8]],
-    kept: u64,
-}
+// How many times a log is kept, how a session ends, what is told, and how much of the log was kept last.
+type Kept<'a> = (u32, Result<(), SessionFault>, &'a [&'a [u8]], u64);
 
-fn expect_kept(rt: &impl Abort, alloc: Global, session: &KeptSession) {
-    let mut primary = kept_bank(rt, alloc, &[], session.left);
-    let sent = joined(rt, alloc, session.sent);
-    let told = joined(rt, alloc, session.told);
+fn expect_kept(rt: &impl Abort, alloc: Global, sent: &[&[u8]], session: &Kept<'_>) {
+    let (left, ends, told, kept) = *session;
+    let mut primary = kept_bank(rt, alloc, &[], left);
+    let sent = joined(rt, alloc, sent);
+    let told = joined(rt, alloc, told);
     // Each flush comes in a read of its own.
     let mut reader = BytewiseReader {
         left: &sent,
         reads: u32::MAX,
         fails: false,
     };
-    let mut written: Vec<u8> = Vec::new(alloc);
-    let ended = serve_session(
-        alloc,
-        &mut reader,
-        &mut written,
-        &mut primary,
-        &mut InlineCrew,
-    );
-    expect(rt, ended == session.ends, "how the session ends");
-    expect_bytes(rt, &written, &told, "what the client is told");
-    expect(rt, primary.keeper().kept == session.kept, "what is kept");
+    expect_session(rt, alloc, &mut primary, &mut reader, ends, &told);
+    expect(rt, primary.keeper().kept == kept, "what is kept");
 }
 
-const UNKEPT: Result<(), SessionFault> = Err(SessionFault::Log(LogFault::Device));
+pub(crate) const UNKEPT: Result<(), SessionFault> = Err(SessionFault::Log(LogFault::Device));
 
 // Two flushes, each after an ask.
 const SENT: &[&[u8]] = &[BALANCE, FLUSH, DEPOSIT, FLUSH];
 
-const FLUSHED: &[KeptSession<'static>] = &[
-    KeptSession {
-        left: 9,
-        sent: SENT,
-        ends: Ok(()),
-        told: &[SHOWN, DONE],
-        kept: 2,
-    },
-    KeptSession {
-        left: 2,
-        sent: SENT,
-        ends: UNKEPT,
-        told: &[SHOWN, DONE],
-        kept: 2,
-    },
-    KeptSession {
-        left: 1,
-        sent: SENT,
-        ends: UNKEPT,
-        told: &[SHOWN],
-        kept: 1,
-    },
-    KeptSession {
-        left: 0,
-        sent: SENT,
-        ends: UNKEPT,
-        told: &[],
-        kept: 0,
-    },
+const FLUSHED: &[Kept<'static>] = &[
+    (9, Ok(()), &[SHOWN, DONE], 2),
+    (2, UNKEPT, &[SHOWN, DONE], 2),
+    (1, UNKEPT, &[SHOWN], 1),
+    (0, UNKEPT, &[], 0),
 ];
 
 #[test]
 fn a_log_is_kept_before_its_outcomes_are_told(rt: HostRuntime) {
     for session in FLUSHED {
-        expect_kept(&rt, rt.alloc(), session);
+        expect_kept(&rt, rt.alloc(), SENT, session);
     }
 }
 
@@ -151,34 +110,16 @@ fn a_log_is_kept_before_its_outcomes_are_told(rt: HostRuntime) {
 const CUT_SHORT: &[&[u8]] = &[BALANCE, DEPOSIT, ENTRY];
 
 // The log is kept as the client ends, and once more, when nothing is left to be kept.
-const UNFLUSHED: &[KeptSession<'static>] = &[
-    KeptSession {
-        left: 2,
-        sent: CUT_SHORT,
-        ends: Err(SessionFault::Unexpected),
-        told: &[],
-        kept: 2,
-    },
-    KeptSession {
-        left: 1,
-        sent: CUT_SHORT,
-        ends: UNKEPT,
-        told: &[],
-        kept: 2,
-    },
-    KeptSession {
-        left: 0,
-        sent: CUT_SHORT,
-        ends: UNKEPT,
-        told: &[],
-        kept: 0,
-    },
+const UNFLUSHED: &[Kept<'static>] = &[
+    (2, Err(SessionFault::Unexpected), &[], 2),
+    (1, UNKEPT, &[], 2),
+    (0, UNKEPT, &[], 0),
 ];
 
 #[test]
 fn asks_before_a_fault_of_the_client_are_kept(rt: HostRuntime) {
     for session in UNFLUSHED {
-        expect_kept(&rt, rt.alloc(), session);
+        expect_kept(&rt, rt.alloc(), CUT_SHORT, session);
     }
 }
 
@@ -189,16 +130,7 @@ fn a_bank_goes_on_from_its_log(rt: HostRuntime) {
     let mut primary = kept_bank(&rt, alloc, calls, 9);
     let sent = joined(&rt, alloc, &[BALANCE, DEPOSIT, FLUSH]);
     let told = joined(&rt, alloc, &[SHOWN, DONE]);
-    let mut reader = sent.as_slice();
-    let mut written: Vec<u8> = Vec::new(alloc);
-    let ended = serve_session(
-        alloc,
-        &mut reader,
-        &mut written,
-        &mut primary,
-        &mut InlineCrew,
-    );
-    expect(&rt, ended == Ok(()), "how the session ends");
-    expect_bytes(&rt, &written, &told, "what the client is told");
+    let reader = &mut sent.as_slice();
+    expect_session(&rt, alloc, &mut primary, reader, Ok(()), &told);
     expect(&rt, primary.log().length() == 2, "the log");
 }

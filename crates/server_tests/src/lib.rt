@@ -23,6 +23,8 @@ mod gates;
 #[cfg(test)]
 mod keepers;
 #[cfg(test)]
+mod kept_logs;
+#[cfg(test)]
 mod limits;
 #[cfg(test)]
 mod nodes;

@@ -1,7 +1,7 @@
 //! Clients whose connections break.
-use crate::bank::{expect, expect_bytes, joined, opened};
+use crate::bank::{joined, opened};
 use crate::devices::{BytewiseReader, HaltingReader, Hitch, InterruptedReader, NarrowWriter};
-use crate::wire::{BALANCE, DEPOSIT, DONE, FLUSH, SHOWN, serve};
+use crate::wire::{BALANCE, DEPOSIT, DONE, FLUSH, SHOWN, expect_session, serve};
 use bank_server::{Primary, SessionFault, serve_session};
 use cown_board::Runs;
 use cown_workers::InlineCrew;
@@ -85,16 +85,7 @@ fn halt_at(rt: &impl Abort, alloc: Global, away: u32, hitch: Hitch) {
     let told = joined(rt, alloc, TOLD);
     let left = sent.as_slice();
     let mut reader = HaltingReader { left, away, hitch };
-    let mut written: Vec<u8> = Vec::new(alloc);
-    let ended = serve_session(
-        alloc,
-        &mut reader,
-        &mut written,
-        &mut primary,
-        &mut InlineCrew,
-    );
-    expect(rt, ended == Ok(()), "how the session ends");
-    expect_bytes(rt, &written, &told, "what the client is told");
+    expect_session(rt, alloc, &mut *primary, &mut reader, Ok(()), &told);
 }
 
 // The 66 bytes take 33 reads, and one more is the end.
@@ -111,15 +102,7 @@ fn a_read_with_a_hitch(rt: HostRuntime) {
 fn expect_after(rt: &impl Abort, alloc: Global, reads: u32, ends: Result<(), SessionFault>) {
     let mut primary = opened(rt, alloc);
     let mut reader = InterruptedReader { reads };
-    let mut written: Vec<u8> = Vec::new(alloc);
-    let ended = serve_session(
-        alloc,
-        &mut reader,
-        &mut written,
-        &mut primary,
-        &mut InlineCrew,
-    );
-    expect(rt, ended == ends, "how the session ends");
+    expect_session(rt, alloc, &mut *primary, &mut reader, ends, b"");
 }
 
 #[test]

@@ -2,7 +2,7 @@
 use crate::bank::{expect, expect_bytes, joined, opened};
 use crate::devices::BytewiseReader;
 use crate::wire::{
-    BALANCE, DEPOSIT, DONE, ENTRY, FLUSH, HAVE, MISMATCH, OTHER, SHOWN, expect_session, push_with,
+    BALANCE, DEPOSIT, DONE, ENTRY, FLUSH, HAVE, MISMATCH, OTHER, SHOWN, expect_session, frames,
 };
 use bank_server::{Primary, SessionFault, serve_session};
 use cown_board::Runs;
@@ -117,50 +117,24 @@ fn asks_that_no_flush_follows(rt: HostRuntime) {
     expect_sessions(&rt, rt.alloc(), NO_FLUSH_FOLLOWS, 2);
 }
 
-const AN_ENTRY: &[Session] = &[
-    Session {
-        sent: &[BALANCE, FLUSH, DEPOSIT, ENTRY, FLUSH],
-        ends: Err(SessionFault::Unexpected),
-        told: &[SHOWN],
-    },
-    Session {
-        sent: &[DEPOSIT, FLUSH],
-        ends: Ok(()),
-        told: &[DONE],
-    },
-];
-
-const AN_OUTCOME: &[Session] = &[
-    Session {
-        sent: &[BALANCE, FLUSH, DEPOSIT, DONE, FLUSH],
-        ends: Err(SessionFault::Unexpected),
-        told: &[SHOWN],
-    },
-    Session {
-        sent: &[DEPOSIT, FLUSH],
-        ends: Ok(()),
-        told: &[DONE],
-    },
-];
-
-const A_CHECKPOINTS_LENGTH: &[Session] = &[
-    Session {
-        sent: &[BALANCE, FLUSH, DEPOSIT, HAVE, FLUSH],
-        ends: Err(SessionFault::Unexpected),
-        told: &[SHOWN],
-    },
-    Session {
-        sent: &[DEPOSIT, FLUSH],
-        ends: Ok(()),
-        told: &[DONE],
-    },
-];
-
 #[test]
 fn frames_that_no_client_sends(rt: HostRuntime) {
-    expect_sessions(&rt, rt.alloc(), AN_ENTRY, 2);
-    expect_sessions(&rt, rt.alloc(), AN_OUTCOME, 2);
-    expect_sessions(&rt, rt.alloc(), A_CHECKPOINTS_LENGTH, 2);
+    // An entry, an outcome, and a checkpoint's length.
+    for frame in [ENTRY, DONE, HAVE] {
+        let sessions = [
+            Session {
+                sent: &[BALANCE, FLUSH, DEPOSIT, frame, FLUSH],
+                ends: Err(SessionFault::Unexpected),
+                told: &[SHOWN],
+            },
+            Session {
+                sent: &[DEPOSIT, FLUSH],
+                ends: Ok(()),
+                told: &[DONE],
+            },
+        ];
+        expect_sessions(&rt, rt.alloc(), &sessions, 2);
+    }
 }
 
 const NO_FRAME: &[Session] = &[
@@ -194,21 +168,12 @@ fn a_frame_that_is_not_whole(rt: HostRuntime) {
     }
 }
 
-// This many copies of the model, each with the next request in its place, and then this end.
-fn frames(rt: &impl Abort, alloc: Global, count: u32, model: &[u8], end: &[u8]) -> Vec<u8> {
-    let mut bytes = Vec::new(alloc);
-    for request in 0..count {
-        push_with(rt, model, request, &mut bytes);
-    }
-    bytes.extend_from_slice(end).expect(rt, "memory for bytes");
-    bytes
-}
-
 #[test]
 fn more_asks_than_may_be_unfinished(rt: HostRuntime) {
-    let sent = frames(&rt, rt.alloc(), 3_000, DEPOSIT, FLUSH);
-    let told = frames(&rt, rt.alloc(), 3_000, DONE, b"");
+    let sent = frames(&rt, rt.alloc(), 0..3_000, DEPOSIT, FLUSH);
+    let told = frames(&rt, rt.alloc(), 0..3_000, DONE, b"");
     let mut primary = opened(&rt, rt.alloc());
-    expect_session(&rt, rt.alloc(), &mut *primary, &sent, Ok(()), &told);
+    let reader = &mut sent.as_slice();
+    expect_session(&rt, rt.alloc(), &mut *primary, reader, Ok(()), &told);
     expect(&rt, primary.node().length() == 3_000, "all carried out");
 }

@@ -2,8 +2,11 @@
 use crate::bank::{expect, expect_bytes, joined};
 use bank_server::{Primary, SessionFault, serve_session};
 use cown_workers::InlineCrew;
+use sb_ask_log::Keeper;
 use sb_checkpoint::CheckpointStore;
 use std::alloc::Global;
+use std::io::Read;
+use std::ops::Range;
 use std::process::Abort;
 
 /// Client 7 asks for alice's balance by its request 1.
@@ -37,24 +40,23 @@ pub(crate) const DONE: &[u8] =
 pub(crate) const MISMATCH: &[u8] =
     b"\x00\x13\x05\x00\x00\x00\x07\x00\x00\x00\x01\x01\x00\x00\x00\x00\x00\x00\x00\x00\x00";
 
-/// Checks how a session of these bytes ends, by reads as long as they may be, and what its client
-/// gets.
-pub(crate) fn expect_session<S: CheckpointStore>(
+/// Checks how a session of what a reader gives ends, and what its client gets.
+pub(crate) fn expect_session<S: CheckpointStore, K: Keeper>(
     rt: &impl Abort,
     alloc: Global,
-    primary: &mut Primary<S>,
-    sent: &[u8],
+    primary: &mut Primary<S, K>,
+    reader: &mut impl Read,
     ends: Result<(), SessionFault>,
     told: &[u8],
 ) {
-    let mut reader = sent;
     let mut written: Vec<u8> = Vec::new(alloc);
-    let ended = serve_session(alloc, &mut reader, &mut written, primary, &mut InlineCrew);
+    let ended = serve_session(alloc, reader, &mut written, primary, &mut InlineCrew);
     expect(rt, ended == ends, "how the session ends");
     expect_bytes(rt, &written, told, "what the client is told");
 }
 
-/// Checks that a session of these pieces ends well, and what its client gets.
+/// Checks that a session of these pieces ends well, by reads as long as they may be, and what its
+/// client gets.
 pub(crate) fn serve<S: CheckpointStore>(
     rt: &impl Abort,
     alloc: Global,
@@ -64,7 +66,7 @@ pub(crate) fn serve<S: CheckpointStore>(
 ) {
     let sent = joined(rt, alloc, sent);
     let told = joined(rt, alloc, told);
-    expect_session(rt, alloc, primary, &sent, Ok(()), &told);
+    expect_session(rt, alloc, primary, &mut sent.as_slice(), Ok(()), &told);
 }
 
 /// Appends a copy of the model, with this request in its place.
@@ -75,4 +77,20 @@ pub(crate) fn push_with(rt: &impl Abort, model: &[u8], request: u32, out: &mut V
             out.extend_from_slice(piece).expect(rt, "memory for bytes");
         }
     }
+}
+
+/// A copy of the model for each of these requests, and then this end.
+pub(crate) fn frames(
+    rt: &impl Abort,
+    alloc: Global,
+    requests: Range<u32>,
+    model: &[u8],
+    end: &[u8],
+) -> Vec<u8> {
+    let mut bytes = Vec::new(alloc);
+    for request in requests {
+        push_with(rt, model, request, &mut bytes);
+    }
+    bytes.extend_from_slice(end).expect(rt, "memory for bytes");
+    bytes
 }
